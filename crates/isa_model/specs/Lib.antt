@@ -1,0 +1,10 @@
+pub mod Bits
+pub mod Encoding
+pub mod InstrTable
+pub mod Arithmetic
+pub mod LatchOrder
+pub mod Effect
+pub mod TaskPlaces
+pub mod Alone
+pub mod AloneValue
+pub mod Control
