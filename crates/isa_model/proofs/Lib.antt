@@ -1,0 +1,4 @@
+pub mod RunLaws
+mod TryArithmetic
+mod TryEffect
+mod TryAlone
