@@ -1,0 +1,3 @@
+pub mod RowsAreExact
+pub mod TableLaws
+mod TryEncoding

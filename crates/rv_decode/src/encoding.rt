@@ -3,6 +3,7 @@
 ghost use Rattle.std.specs.Prelude.{◌≡◌, ◌+◌, ◌*◌, ◌<◌, ◌^◌};
 ghost use Rattle.isa_model.specs.Bits.{two_complement, IsInBits};
 ghost use Rattle.isa_model.specs.Encoding.{IsInstr, IsImmediate, word_of, i_format, funct3_of_cmp, funct3_of_load, funct3_of_store, funct3_of_alu, funct7_of_alu, funct3_of_csr};
+ghost use Rattle.isa_model.specs.InstrTable.{instr_of};
 
 use crate::formats::{b_format, i_format, j_format, r_format, s_format, u_format};
 use isa_model::{Alu, Cmp, CsrOp, Instr, LoadKind, RegNo, StoreKind};
@@ -11,22 +12,56 @@ use isa_model::{Alu, Cmp, CsrOp, Instr, LoadKind, RegNo, StoreKind};
 pub fn encode(instr: Instr) -> u32
     requires instruction { IsInstr instr }
     ensures word { result ≡ word_of instr }
+    ensures back { instr_of result ≡ Some instr }
+{
+    by_format(instr)
+}
+
+/// The word of an instruction, by the fields of its format.
+fn by_format(instr: Instr) -> u32
+    requires instruction { IsInstr instr }
+    ensures word { result ≡ word_of instr }
 {
     match instr {
         Instr::Lui { rd, imm20 } => u_format(0x37, rd, imm20),
         Instr::Auipc { rd, imm20 } => u_format(0x17, rd, imm20),
         Instr::Jal { rd, off } => j_format(0x6f, rd, bits_21(off)),
         Instr::Jalr { rd, rs1, imm } => i_format(0x67, rd, 0, rs1, bits_12(imm)),
-        Instr::Branch { op, rs1, rs2, off } => b_format(0x63, funct3_of_cmp(op), rs1, rs2, bits_13(off)),
-        Instr::Load { kind, rd, rs1, imm } => i_format(0x03, rd, funct3_of_load(kind), rs1, bits_12(imm)),
+        Instr::Branch { op, rs1, rs2, off } => b_format(
+            0x63,
+            funct3_of_cmp(op),
+            rs1,
+            rs2,
+            bits_13(off),
+        ),
+        Instr::Load { kind, rd, rs1, imm } => i_format(
+            0x03,
+            rd,
+            funct3_of_load(kind),
+            rs1,
+            bits_12(imm),
+        ),
         Instr::Store {
             kind,
             rs2,
             rs1,
             imm,
         } => s_format(0x23, funct3_of_store(kind), rs1, rs2, bits_12(imm)),
-        Instr::AluImm { op, rd, rs1, imm } => i_format(0x13, rd, funct3_of_alu(op), rs1, alu_immediate(op, imm)),
-        Instr::AluReg { op, rd, rs1, rs2 } => r_format(0x33, rd, funct3_of_alu(op), rs1, rs2, funct7_of_alu(op)),
+        Instr::AluImm { op, rd, rs1, imm } => i_format(
+            0x13,
+            rd,
+            funct3_of_alu(op),
+            rs1,
+            alu_immediate(op, imm),
+        ),
+        Instr::AluReg { op, rd, rs1, rs2 } => r_format(
+            0x33,
+            rd,
+            funct3_of_alu(op),
+            rs1,
+            rs2,
+            funct7_of_alu(op),
+        ),
         Instr::Fence { word } => word,
         Instr::Ecall => 0x0000_0073,
         Instr::Ebreak => 0x0010_0073,
@@ -42,7 +77,11 @@ fn bits_12(number: i32) -> u32
     ensures value { result ≡ two_complement 12 number }
     ensures bound { result < 2 ^ 12 }
 {
-    if number < 0 { (number + 0x1000) as u32 } else { number as u32 }
+    if number < 0 {
+        (number + 0x1000) as u32
+    } else {
+        number as u32
+    }
 }
 
 /// A signed number as 13 bits.
@@ -51,7 +90,11 @@ fn bits_13(number: i32) -> u32
     ensures value { result ≡ two_complement 13 number }
     ensures bound { result < 2 ^ 13 }
 {
-    if number < 0 { (number + 0x2000) as u32 } else { number as u32 }
+    if number < 0 {
+        (number + 0x2000) as u32
+    } else {
+        number as u32
+    }
 }
 
 /// A signed number as 21 bits.
@@ -60,7 +103,11 @@ fn bits_21(number: i32) -> u32
     ensures value { result ≡ two_complement 21 number }
     ensures bound { result < 2 ^ 21 }
 {
-    if number < 0 { (number + 0x20_0000) as u32 } else { number as u32 }
+    if number < 0 {
+        (number + 0x20_0000) as u32
+    } else {
+        number as u32
+    }
 }
 
 /// The bits 31:20 of an operation on an immediate. Those of a shift have funct7 above the amount.
@@ -81,7 +128,13 @@ fn csr_immediate(op: CsrOp, rd: RegNo, uimm: u8, csr: u16) -> u32
     requires csr { csr < 2 ^ 12 }
     ensures value { result ≡ i_format 0x73 rd (4 + funct3_of_csr op) uimm csr }
 {
-    i_format(0x73, rd, 4 + funct3_of_csr(op), RegNo::new(uimm).unwrap(), csr.into())
+    i_format(
+        0x73,
+        rd,
+        4 + funct3_of_csr(op),
+        RegNo::new(uimm).unwrap(),
+        csr.into(),
+    )
 }
 
 /// The funct3 of a branch.

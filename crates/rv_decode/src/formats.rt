@@ -62,7 +62,11 @@ pub fn b_format(opcode: u32, funct3: u32, rs1: RegNo, rs2: RegNo, off: u32) -> u
 {
     let low = with_field(with_field(opcode, 7, bits(off, 11, 1)), 8, bits(off, 1, 4));
     let middle = with_field(with_field(low, 12, funct3), 15, rs1.num().into());
-    let high = with_field(with_field(middle, 20, rs2.num().into()), 25, bits(off, 5, 6));
+    let high = with_field(
+        with_field(middle, 20, rs2.num().into()),
+        25,
+        bits(off, 5, 6),
+    );
     with_field(high, 31, bits(off, 12, 1))
 }
 
