@@ -1,4 +1,7 @@
+pub mod RowsAreExact
 pub mod RunLaws
+pub mod TableLaws
+mod TryAlone
 mod TryArithmetic
 mod TryEffect
-mod TryAlone
+mod TryEncoding

@@ -3,6 +3,7 @@
 #![tactic(auto)]
 
 pub mod control;
+pub mod encoding_laws;
 pub mod ends;
 pub mod instr;
 pub mod latch;
