@@ -1,6 +1,6 @@
 -- Orders that grow, and how many entries of a number they have.
 use Rattle.std.proofs.Common.{◌≡◌, ℕ, ◌+◌, ◌≢◌, List, [], ◌∷◌, ◌++◌, cond, refl, ap, ◌∙◌, sym, append_assoc, append-nil, ne_eqb, eq-eqb, arith, ◌==◌}
-use Rattle.std.proofs.lemmas.List.Sums.{sum_by-append, sum_by_push}
+use Rattle.std.proofs.lemmas.List.Sums.{sum_by-append}
 use Rattle.turn_lock.specs.Order.{entries_of, KnowsOwnEntries}
 
 pub entries_of-append : (number : ℕ) (xs ys : List ℕ) → entries_of number (xs ++ ys) ≡ entries_of number xs + entries_of number ys

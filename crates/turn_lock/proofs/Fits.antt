@@ -1,13 +1,10 @@
 -- Views in their places after a step of another seat.
-use Rattle.std.proofs.Common.{◌≡◌, ℕ, ◌+◌, ◌≤◌, ◌<◌, ◌≢◌, true, true≢false, List, ◌++◌, length, sym, ap, ◌∙◌, subst, arith, Option, None, Some}
-use mathlib.Core.Option.{some}
-use lib.ListN.{get_elem?}
+use Rattle.std.proofs.Common.{◌≡◌, ℕ, ◌+◌, ◌≤◌, ◌<◌, ◌≢◌, true, true≢false, List, sym, ap, ◌∙◌, subst, arith, Option, None, Some}
 use Rattle.turn_lock.specs.declared.seat_view.SeatView.{SeatView}
 use Rattle.turn_lock.specs.declared.rule.LockKey.{LockKey}
-use Rattle.turn_lock.specs.Order.{entries_of, KnowsOwnEntries}
+use Rattle.turn_lock.specs.Order.{entries_of}
 use Rattle.turn_lock.specs.Stage.{HasTicket, has_turn}
-use Rattle.turn_lock.specs.SeatView.{spent_view}
-use Rattle.turn_lock.specs.Rule.{Account, KnowsJoined, KnowsOthers, FitsPlace, FitsOrIsSpent}
+use Rattle.turn_lock.specs.Rule.{Account, FitsPlace, FitsOrIsSpent}
 use Rattle.turn_lock.proofs.Entries.{knows_longer}
 use Rattle.turn_lock.proofs.Accounts.{after_draw, after_turn, after_split, after_join}
 use Rattle.turn_lock.proofs.Places.{at_below}

@@ -1,5 +1,5 @@
 -- A draw of a ticket and a look at the ticket served keep the rule.
-use Rattle.std.proofs.Common.{◌≡◌, ℕ, ◌+◌, ◌%◌, ◌^◌, ◌≤◌, ◌<◌, ◌≢◌, false, true≢false, List, ◌∷◌, length, get_or, set, sym, refl, ap, ◌∙◌, subst, arith, length-set, get_or-set_other, get_or-set_same, Option, Some}
+use Rattle.std.proofs.Common.{◌≡◌, ℕ, ◌+◌, ◌%◌, ◌^◌, ◌≤◌, ◌<◌, false, true≢false, List, get_or, sym, refl, ap, ◌∙◌, subst, arith, length-set, get_or-set_other, get_or-set_same, Option, Some}
 use mathlib.Core.Logic.{dite}
 use mathlib.Core.Option.{none, some, some-injective}
 use native.Mathlib.Decide.{ℕ_discrete}
@@ -14,8 +14,8 @@ use Rattle.turn_lock.specs.declared.rule.LockKey.{LockKey}
 use Rattle.turn_lock.specs.Order.{KnowsOwnEntries}
 use Rattle.turn_lock.specs.Stage.{ticket_count, ticket_of, HasTicket, has_turn}
 use Rattle.turn_lock.specs.SeatView.{view_with, view_at, NobodyHasTurn}
-use Rattle.turn_lock.specs.Rule.{Account, IsInLine, FitsPlace, FitsOrIsSpent, IsTicketLock}
-use Rattle.turn_lock.specs.Plays.{DrawsTicket, HasTurnNow, LooksForTurn}
+use Rattle.turn_lock.specs.Rule.{Account, IsInLine, FitsOrIsSpent, IsTicketLock}
+use Rattle.turn_lock.specs.Plays.{DrawsTicket, LooksForTurn}
 use Rattle.turn_lock.proofs.Entries.{knows_whole}
 use Rattle.turn_lock.proofs.Accounts.{after_draw}
 use Rattle.turn_lock.proofs.Places.{at_below, each_set}

@@ -8,7 +8,7 @@ use Rattle.turn_lock.specs.declared.seat_view.SeatView.{SeatView}
 use Rattle.turn_lock.specs.declared.seat_view.Stage.TheVariants.{Idle}
 use Rattle.turn_lock.specs.declared.rule.LockKey.{LockKey}
 use Rattle.turn_lock.specs.Order.{entries_of, KnowsOwnEntries}
-use Rattle.turn_lock.specs.Stage.{ticket_count, has_turn}
+use Rattle.turn_lock.specs.Stage.{has_turn}
 use Rattle.turn_lock.specs.SeatView.{view_with}
 use Rattle.turn_lock.specs.Rule.{Account, FitsOrIsSpent, IsTicketLock}
 use Rattle.turn_lock.specs.Plays.{EndsTurn, EndsWithEntry, EndsWithoutEntry}

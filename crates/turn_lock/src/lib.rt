@@ -11,6 +11,8 @@ mod passes;
 mod plays;
 mod rule;
 mod seat_view;
+#[cfg(test)]
+mod tests;
 mod turn_taking;
 mod turned;
 mod turns;

@@ -16,7 +16,13 @@ pub(crate) const SERVING: usize = 1;
 /// A lock round a value of type V, which seats with a `Pass` take out in turn.
 #[derive(Drop)]
 pub struct Turns<V: Turned> {
-    pub(crate) table: Table<Option<V>, SeatView<V::Frame>, LockKey<V::Frame>, TicketRule<V>, Global>,
+    pub(crate) table: Table<
+        Option<V>,
+        SeatView<V::Frame>,
+        LockKey<V::Frame>,
+        TicketRule<V>,
+        Global,
+    >,
     ghost some_seat: { 1 ≤ table.shared.key.seats },
     ghost shape: { (table.shared.table_id.words ≡ 2) × (table.shared.table_id.slots ≡ 1) },
 }

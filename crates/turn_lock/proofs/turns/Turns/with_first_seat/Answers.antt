@@ -11,4 +11,4 @@ new-requires g c =
     let key : LockKey g.row.V-Frame.Denot = record { frame = c.args.frame; seats = c.args.seats } in
     let slots = c.push_reserved.ensures.items ∙ ap (λ xs. xs ++ Some c.args.value ∷ []) c.in_ok-slots.ensures.items in
     subst (λ xs. IsTicketLock g.V.Turned.stands key (opening (0 ∷ 0 ∷ []) xs (opening_view key))) (sym slots)
-        (opening_meets_rule g.V.Turned.stands key c.args.value c.requires.seats.0 c.requires.seats.1 c.requires.value)
+    (opening_meets_rule g.V.Turned.stands key c.args.value c.requires.seats.0 c.requires.seats.1 c.requires.value)
