@@ -1,5 +1,5 @@
 -- What a clause says of a lock, of its passes, and of a pass in its turn.
-use Rattle.std.specs.Prelude.{◌≡◌, ℕ, List, [], Some}
+use Rattle.std.specs.Prelude.{◌≡◌, ℕ, List, [], Some, slice_get}
 use Rattle.turn_lock.specs.declared.turned.Turned.{Ghosts}
 use Rattle.turn_lock.specs.declared.turns.Turns.{Turns}
 use Rattle.turn_lock.specs.declared.passes.Pass.{Pass}
@@ -42,3 +42,11 @@ module _ {V F : Type 0} {g : Ghosts V F} where
   -- the pass is of this lock, has this number, and has seen the empty order, so it has made no entry
   abbrev pub IsNewPass : Turns V F → ℕ → Pass V F g → Type 0
   IsNewPass lock number pass = IsPassOf lock pass × (pass_number pass ≡ number) × (pass_seen pass ≡ [])
+
+  -- the passes of a lock's seats, in the order of their numbers from 0 on, as new ones are
+  abbrev pub AreNewPasses : Turns V F → List (Pass V F g) → Type 0
+  AreNewPasses lock passes = (number : ℕ) (pass : Pass V F g) → slice_get passes number ≡ Some pass → IsNewPass lock number pass
+
+  -- passes of the lock, in the order of their numbers from 0 on
+  abbrev pub ArePassesInOrder : Turns V F → List (Pass V F g) → Type 0
+  ArePassesInOrder lock passes = (number : ℕ) (pass : Pass V F g) → slice_get passes number ≡ Some pass → IsPassOf lock pass × (pass_number pass ≡ number)

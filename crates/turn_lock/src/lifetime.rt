@@ -1,9 +1,9 @@
 // How a lock is made with its seats, and how it ends.
-ghost use Rattle.std.specs.Prelude.{Some, slice_get, ◌≡◌, ℕ, ◌≤◌, List, [], IfOk, map, vec_len};
+ghost use Rattle.std.specs.Prelude.{◌≡◌, ℕ, ◌≤◌, List, [], IfOk, map, vec_len};
 ghost use Rattle.turn_lock.specs.Order.{IsWholeOrder};
 ghost use Rattle.turn_lock.specs.SeatView.{opening_view};
 ghost use Rattle.turn_lock.specs.Rule.{HasJoinedAll, StandsForWhole};
-ghost use Rattle.turn_lock.specs.Passes.{IsNewPass, IsPassOf, pass_number, pass_seen, lock_frame, lock_seats};
+ghost use Rattle.turn_lock.specs.Passes.{AreNewPasses, ArePassesInOrder, pass_seen, lock_frame, lock_seats};
 
 use crate::passes::Pass;
 use crate::plays::{JoinSeat, MakeSeat};
@@ -52,7 +52,7 @@ impl<V: Turned> Turns<V> {
         requires table { first.table_id ≡ self.now.table.shared.table_id }
         requires first { first.me ≡ (opening_view self.now.table.shared.key, []) }
         ensures count { IfOk result (λ passes. vec_len passes ≡ seats) }
-        ensures passes { IfOk result (λ passes. (i : ℕ) (pass : _) → slice_get passes.items i ≡ Some pass → IsNewPass self.now i pass) }
+        ensures passes { IfOk result (λ passes. AreNewPasses self.now passes.items) }
     {
         let mut passes = Vec::with_capacity(alloc, seats as usize)?;
         for _number in 1..seats {
@@ -80,7 +80,7 @@ impl<V: Turned> Turns<V> {
         ensures frame { IfOk result (λ made. lock_frame made.0 ≡ frame) }
         ensures seats { IfOk result (λ made. lock_seats made.0 ≡ seats) }
         ensures count { IfOk result (λ made. vec_len made.1 ≡ seats) }
-        ensures passes { IfOk result (λ made. (i : ℕ) (pass : _) → slice_get made.1.items i ≡ Some pass → IsNewPass made.0 i pass) }
+        ensures passes { IfOk result (λ made. AreNewPasses made.0 made.1.items) }
     {
         let (lock, first) = Turns::with_first_seat(alloc, value, frame, seats)?;
         let passes = lock.deal(alloc, first, seats)?;
@@ -112,8 +112,10 @@ impl<V: Turned> Turns<V> {
     /// The value stands for the whole order, which is the longest that a pass has seen.
     pub fn close(self, mut passes: Vec<Pass<V>>) -> V
         requires count { vec_len passes ≡ lock_seats self }
-        requires passes { (i : ℕ) (pass : _) → slice_get passes.items i ≡ Some pass → IsPassOf self pass × (pass_number pass ≡ i) }
-        ensures { (order : List ℕ) × V.stands result (lock_frame self) order × IsWholeOrder order (map pass_seen passes.items) }
+        requires passes { ArePassesInOrder self passes.items }
+        ensures { (order : List ℕ)
+            × V.stands result (lock_frame self) order
+            × IsWholeOrder order (map pass_seen passes.items) }
     {
         let Turns { table } = self;
         let Pass { seat: mut first } = passes.remove(0);

@@ -1,6 +1,6 @@
 // Seats on real threads.
-ghost use Rattle.std.specs.Prelude.{◌≡◌, ℕ, ◌≤◌, ◌<◌, length, vec_len, IfOk, All, slice_get, Some};
-ghost use Rattle.turn_lock.specs.Passes.{IsPassOf, IsNewPass, pass_number, lock_seats};
+ghost use Rattle.std.specs.Prelude.{◌≡◌, ◌≤◌};
+ghost use Rattle.turn_lock.specs.Passes.{IsPassOf, pass_number};
 
 use crate::{Pass, Turned, Turns};
 use std::alloc::{AllocError, Global};

@@ -24,5 +24,6 @@ pub struct Turns<V: Turned> {
         Global,
     >,
     ghost some_seat: { 1 ≤ table.shared.key.seats },
-    ghost shape: { (table.shared.table_id.words ≡ 2) × (table.shared.table_id.slots ≡ 1) },
+    ghost two_words: { table.shared.table_id.words ≡ 2 },
+    ghost one_slot: { table.shared.table_id.slots ≡ 1 },
 }
