@@ -1,3 +1,7 @@
-pub mod RowsAreExact
+mod RowsAreExact
 pub mod TableLaws
 mod TryEncoding
+pub mod RunLaws
+mod TryArithmetic
+mod TryEffect
+mod TryAlone

@@ -21,21 +21,7 @@ opcode_of (Fence word) = 0x0f
 opcode_of _ = 0x73
 
 opcode_is : (instr : Instr) (word : ℕ) → Spells word instr → bits 0 7 word ≡ opcode_of instr
-opcode_is (Lui rd imm20) word h = grind arith
-opcode_is (Auipc rd imm20) word h = grind arith
-opcode_is (Jal rd off) word h = grind arith
-opcode_is (Jalr rd rs1 imm) word h = grind arith
-opcode_is (Branch op rs1 rs2 off) word h = grind arith
-opcode_is (Load kind rd rs1 imm) word h = grind arith
-opcode_is (Store kind rs2 rs1 imm) word h = grind arith
-opcode_is (AluImm op rd rs1 imm) word h = grind arith
-opcode_is (AluReg op rd rs1 rs2) word h = grind arith
-opcode_is (Fence w) word h = grind arith
-opcode_is Ecall word h = grind arith
-opcode_is Ebreak word h = grind arith
-opcode_is Mret word h = grind arith
-opcode_is (Csr op rd rs1 csr) word h = grind arith
-opcode_is (CsrImm op rd uimm csr) word h = grind arith
+opcode_is instr word h = grind arith
 
 -- every group is the relation for its opcode
 abbrev AreExact : List (ℕ × List Row) → Type 0
@@ -81,21 +67,7 @@ pub table_is_encoding : TableIsEncoding
 table_is_encoding word instr small = (reads word instr small, is_read word instr small)
 
 pub word_bound : (instr : Instr) → IsInstr instr → word_of instr < 2 ^ 32
-word_bound (Lui rd imm20) h = grind arith
-word_bound (Auipc rd imm20) h = grind arith
-word_bound (Jal rd off) h = grind arith
-word_bound (Jalr rd rs1 imm) h = grind arith
-word_bound (Branch op rs1 rs2 off) h = grind arith
-word_bound (Load kind rd rs1 imm) h = grind arith
-word_bound (Store kind rs2 rs1 imm) h = grind arith
-word_bound (AluImm op rd rs1 imm) h = grind arith
-word_bound (AluReg op rd rs1 rs2) h = grind arith
-word_bound (Fence w) h = grind arith
-word_bound Ecall h = grind arith
-word_bound Ebreak h = grind arith
-word_bound Mret h = grind arith
-word_bound (Csr op rd rs1 csr) h = grind arith
-word_bound (CsrImm op rd uimm csr) h = grind arith
+word_bound instr h = grind arith
 
 pub instr_of-word_of : (instr : Instr) → IsInstr instr → instr_of (word_of instr) ≡ Some instr
 instr_of-word_of instr h = is_read (word_of instr) instr (word_bound instr h) (record { in_range = h; is = refl })

@@ -1,0 +1,25 @@
+-- Why a write is explained (this project's own), by the mode, the latch and the two tags alone.
+use Rattle.std.specs.Prelude.{ℕ, suc, ◌+◌, Bool, true, false, ◌&&◌, nat_le, ◌==◌}
+use Rattle.isa_model.specs.declared.latch.Latch.{Latch}
+use Rattle.isa_model.specs.LatchOrder.{same_latch}
+use Rattle.hart_model.specs.declared.tag.Tag.{Tag}
+use Rattle.hart_model.specs.declared.tag.Tag.TheVariants.{Public, Of, Many}
+use Rattle.hart_model.specs.declared.tag.Mode.{Mode}
+use Rattle.hart_model.specs.declared.tag.Mode.TheVariants.{User, Machine}
+use Rattle.hart_model.specs.declared.probe.Why.{Why}
+use Rattle.hart_model.specs.declared.probe.Why.TheVariants as whys
+use Rattle.hart_model.specs.declared.probe.Side.TheVariants.{Was, Now}
+
+-- instruction n of a task, where both tags are of this task and this latch, the new one by this instruction and the old one by an
+-- earlier one
+abbrev pub step_or_unexplained : Bool → ℕ → ℕ → Latch → Why
+step_or_unexplained true task n l = whys.Step task n l
+step_or_unexplained false task n l = whys.Unexplained
+
+abbrev pub why_of : Mode → Latch → Tag → Tag → Why
+why_of mode l Public Public = whys.Public
+why_of mode l (Of task n k) Public = whys.Value task n k Was
+why_of mode l Public (Of task n k) = whys.Value task n k Now
+why_of User l (Of task m k) (Of other (suc n) j) =
+    step_or_unexplained ((task == other) && same_latch k l && same_latch j l && nat_le m n) task n l
+why_of mode l was now = whys.Unexplained
