@@ -1,7 +1,7 @@
 mod RowsAreExact
-pub mod TableLaws
-mod TryEncoding
 pub mod RunLaws
+pub mod TableLaws
+mod TryAlone
 mod TryArithmetic
 mod TryEffect
-mod TryAlone
+mod TryEncoding
