@@ -1,4 +1,4 @@
-pub mod RowsAreExact
+mod RowsAreExact
 pub mod RunLaws
 pub mod TableLaws
 mod TryAlone

@@ -13,60 +13,60 @@ IsExactly opcode rows = (word : ℕ) (instr : Instr) → word < 2 ^ 32 → bits 
     (instr_in rows word ≡ Some instr) ↔ Spells word instr
 
 pub lui_is_exact : IsExactly 0x37 lui_rows
-lui_is_exact word instr small opcode = grind arith
+lui_is_exact word instr bound opcode = grind arith
 
 pub auipc_is_exact : IsExactly 0x17 auipc_rows
-auipc_is_exact word instr small opcode = grind arith
+auipc_is_exact word instr bound opcode = grind arith
 
 pub jal_is_exact : IsExactly 0x6f jal_rows
-jal_is_exact word instr small opcode = grind arith
+jal_is_exact word instr bound opcode = grind arith
 
 pub jalr_is_exact : IsExactly 0x67 jalr_rows
-jalr_is_exact word instr small opcode = grind arith
+jalr_is_exact word instr bound opcode = grind arith
 
 pub branch_is_exact : IsExactly 0x63 branch_rows
-branch_is_exact word instr small opcode = grind (arith, common_steps)
+branch_is_exact word instr bound opcode = grind (arith, common_steps)
 
 pub load_is_exact : IsExactly 0x03 load_rows
-load_is_exact word instr small opcode = grind (arith, common_steps)
+load_is_exact word instr bound opcode = grind (arith, common_steps)
 
 pub store_is_exact : IsExactly 0x23 store_rows
-store_is_exact word instr small opcode = grind arith
+store_is_exact word instr bound opcode = grind arith
 
--- for each funct3
-alu_imm_at : (funct3 word : ℕ) (instr : Instr) → funct3 ≡ bits 12 3 word → word < 2 ^ 32 → bits 0 7 word ≡ 0x13 →
+-- at each funct3
+alu_imm_at : (n word : ℕ) (instr : Instr) → n ≡ bits 12 3 word → word < 2 ^ 32 → bits 0 7 word ≡ 0x13 →
     (instr_in alu_imm_rows word ≡ Some instr) ↔ Spells word instr
-alu_imm_at zero word instr e small opcode = grind arith
-alu_imm_at (suc zero) word instr e small opcode = grind arith
-alu_imm_at (suc (suc zero)) word instr e small opcode = grind arith
-alu_imm_at (suc (suc (suc zero))) word instr e small opcode = grind arith
-alu_imm_at (suc (suc (suc (suc zero)))) word instr e small opcode = grind arith
-alu_imm_at (suc (suc (suc (suc (suc zero))))) word instr e small opcode = grind arith
-alu_imm_at (suc (suc (suc (suc (suc (suc zero)))))) word instr e small opcode = grind arith
-alu_imm_at (suc (suc (suc (suc (suc (suc (suc zero))))))) word instr e small opcode = grind arith
-alu_imm_at (suc (suc (suc (suc (suc (suc (suc (suc f)))))))) word instr e small opcode = absurd (omega arith)
+alu_imm_at zero word instr funct3 bound opcode = grind arith
+alu_imm_at (suc zero) word instr funct3 bound opcode = grind arith
+alu_imm_at (suc (suc zero)) word instr funct3 bound opcode = grind arith
+alu_imm_at (suc (suc (suc zero))) word instr funct3 bound opcode = grind arith
+alu_imm_at (suc (suc (suc (suc zero)))) word instr funct3 bound opcode = grind arith
+alu_imm_at (suc (suc (suc (suc (suc zero))))) word instr funct3 bound opcode = grind arith
+alu_imm_at (suc (suc (suc (suc (suc (suc zero)))))) word instr funct3 bound opcode = grind arith
+alu_imm_at (suc (suc (suc (suc (suc (suc (suc zero))))))) word instr funct3 bound opcode = grind arith
+alu_imm_at (suc (suc (suc (suc (suc (suc (suc (suc n)))))))) word instr funct3 bound opcode = absurd (omega arith)
 
 pub alu_imm_is_exact : IsExactly 0x13 alu_imm_rows
-alu_imm_is_exact word instr small opcode = alu_imm_at (bits 12 3 word) word instr refl small opcode
+alu_imm_is_exact word instr bound opcode = alu_imm_at (bits 12 3 word) word instr refl bound opcode
 
 pub alu_reg_is_exact : IsExactly 0x33 alu_reg_rows
-alu_reg_is_exact word instr small opcode = grind (arith, common_steps)
+alu_reg_is_exact word instr bound opcode = grind (arith, common_steps)
 
 pub fence_is_exact : IsExactly 0x0f fence_rows
-fence_is_exact word instr small opcode = grind arith
+fence_is_exact word instr bound opcode = grind arith
 
--- for each funct3
-system_at : (funct3 word : ℕ) (instr : Instr) → funct3 ≡ bits 12 3 word → word < 2 ^ 32 → bits 0 7 word ≡ 0x73 →
+-- at each funct3
+system_at : (n word : ℕ) (instr : Instr) → n ≡ bits 12 3 word → word < 2 ^ 32 → bits 0 7 word ≡ 0x73 →
     (instr_in system_rows word ≡ Some instr) ↔ Spells word instr
-system_at zero word instr e small opcode = grind arith
-system_at (suc zero) word instr e small opcode = grind arith
-system_at (suc (suc zero)) word instr e small opcode = grind arith
-system_at (suc (suc (suc zero))) word instr e small opcode = grind arith
-system_at (suc (suc (suc (suc zero)))) word instr e small opcode = grind arith
-system_at (suc (suc (suc (suc (suc zero))))) word instr e small opcode = grind arith
-system_at (suc (suc (suc (suc (suc (suc zero)))))) word instr e small opcode = grind arith
-system_at (suc (suc (suc (suc (suc (suc (suc zero))))))) word instr e small opcode = grind arith
-system_at (suc (suc (suc (suc (suc (suc (suc (suc f)))))))) word instr e small opcode = absurd (omega arith)
+system_at zero word instr funct3 bound opcode = grind arith
+system_at (suc zero) word instr funct3 bound opcode = grind arith
+system_at (suc (suc zero)) word instr funct3 bound opcode = grind arith
+system_at (suc (suc (suc zero))) word instr funct3 bound opcode = grind arith
+system_at (suc (suc (suc (suc zero)))) word instr funct3 bound opcode = grind arith
+system_at (suc (suc (suc (suc (suc zero))))) word instr funct3 bound opcode = grind arith
+system_at (suc (suc (suc (suc (suc (suc zero)))))) word instr funct3 bound opcode = grind arith
+system_at (suc (suc (suc (suc (suc (suc (suc zero))))))) word instr funct3 bound opcode = grind arith
+system_at (suc (suc (suc (suc (suc (suc (suc (suc n)))))))) word instr funct3 bound opcode = absurd (omega arith)
 
 pub system_is_exact : IsExactly 0x73 system_rows
-system_is_exact word instr small opcode = system_at (bits 12 3 word) word instr refl small opcode
+system_is_exact word instr bound opcode = system_at (bits 12 3 word) word instr refl bound opcode

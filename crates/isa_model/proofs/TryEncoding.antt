@@ -1,4 +1,4 @@
--- The words of known instructions, as the GNU assembler makes them and the manual's listings give them.
+-- Words of known instructions, as the GNU assembler makes them, and words that are no instruction.
 use Rattle.std.proofs.Common.{◌≡◌, None, Some, refl, pos, negsuc}
 use Rattle.isa_model.specs.declared.instr.Cmp.TheVariants.{Beq, Bgeu}
 use Rattle.isa_model.specs.declared.instr.LoadKind.TheVariants as loads

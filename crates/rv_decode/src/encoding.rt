@@ -27,41 +27,16 @@ fn by_format(instr: Instr) -> u32
         Instr::Auipc { rd, imm20 } => u_format(0x17, rd, imm20),
         Instr::Jal { rd, off } => j_format(0x6f, rd, bits_21(off)),
         Instr::Jalr { rd, rs1, imm } => i_format(0x67, rd, 0, rs1, bits_12(imm)),
-        Instr::Branch { op, rs1, rs2, off } => b_format(
-            0x63,
-            funct3_of_cmp(op),
-            rs1,
-            rs2,
-            bits_13(off),
-        ),
-        Instr::Load { kind, rd, rs1, imm } => i_format(
-            0x03,
-            rd,
-            funct3_of_load(kind),
-            rs1,
-            bits_12(imm),
-        ),
+        Instr::Branch { op, rs1, rs2, off } => branch(op, rs1, rs2, off),
+        Instr::Load { kind, rd, rs1, imm } => load(kind, rd, rs1, imm),
         Instr::Store {
             kind,
             rs2,
             rs1,
             imm,
-        } => s_format(0x23, funct3_of_store(kind), rs1, rs2, bits_12(imm)),
-        Instr::AluImm { op, rd, rs1, imm } => i_format(
-            0x13,
-            rd,
-            funct3_of_alu(op),
-            rs1,
-            alu_immediate(op, imm),
-        ),
-        Instr::AluReg { op, rd, rs1, rs2 } => r_format(
-            0x33,
-            rd,
-            funct3_of_alu(op),
-            rs1,
-            rs2,
-            funct7_of_alu(op),
-        ),
+        } => store(kind, rs2, rs1, imm),
+        Instr::AluImm { op, rd, rs1, imm } => alu_immediate(op, rd, rs1, imm),
+        Instr::AluReg { op, rd, rs1, rs2 } => alu_register(op, rd, rs1, rs2),
         Instr::Fence { word } => word,
         Instr::Ecall => 0x0000_0073,
         Instr::Ebreak => 0x0010_0073,
@@ -69,6 +44,66 @@ fn by_format(instr: Instr) -> u32
         Instr::Csr { op, rd, rs1, csr } => i_format(0x73, rd, funct3_of_csr(op), rs1, csr.into()),
         Instr::CsrImm { op, rd, uimm, csr } => csr_immediate(op, rd, uimm, csr),
     }
+}
+
+/// The word of a branch.
+fn branch(op: Cmp, rs1: RegNo, rs2: RegNo, off: i32) -> u32
+    requires instruction { IsInstr (Instr.Branch op rs1 rs2 off) }
+    ensures word { result ≡ word_of (Instr.Branch op rs1 rs2 off) }
+{
+    b_format(0x63, funct3_of_cmp(op), rs1, rs2, bits_13(off))
+}
+
+/// The word of a load.
+fn load(kind: LoadKind, rd: RegNo, rs1: RegNo, imm: i32) -> u32
+    requires instruction { IsInstr (Instr.Load kind rd rs1 imm) }
+    ensures word { result ≡ word_of (Instr.Load kind rd rs1 imm) }
+{
+    i_format(0x03, rd, funct3_of_load(kind), rs1, bits_12(imm))
+}
+
+/// The word of a store.
+fn store(kind: StoreKind, rs2: RegNo, rs1: RegNo, imm: i32) -> u32
+    requires instruction { IsInstr (Instr.Store kind rs2 rs1 imm) }
+    ensures word { result ≡ word_of (Instr.Store kind rs2 rs1 imm) }
+{
+    s_format(0x23, funct3_of_store(kind), rs1, rs2, bits_12(imm))
+}
+
+/// The word of an operation on an immediate. A shift has funct7 above its amount.
+fn alu_immediate(op: Alu, rd: RegNo, rs1: RegNo, imm: i32) -> u32
+    requires instruction { IsInstr (Instr.AluImm op rd rs1 imm) }
+    ensures word { result ≡ word_of (Instr.AluImm op rd rs1 imm) }
+{
+    i_format(
+        0x13,
+        rd,
+        funct3_of_alu(op),
+        rs1,
+        0x20 * funct7_of_alu(op) + bits_12(imm),
+    )
+}
+
+/// The word of an operation on two registers.
+fn alu_register(op: Alu, rd: RegNo, rs1: RegNo, rs2: RegNo) -> u32
+    requires instruction { IsInstr (Instr.AluReg op rd rs1 rs2) }
+    ensures word { result ≡ word_of (Instr.AluReg op rd rs1 rs2) }
+{
+    r_format(0x33, rd, funct3_of_alu(op), rs1, rs2, funct7_of_alu(op))
+}
+
+/// The word of a CSR instruction on an immediate, which stands in the place of rs1.
+fn csr_immediate(op: CsrOp, rd: RegNo, uimm: u8, csr: u16) -> u32
+    requires instruction { IsInstr (Instr.CsrImm op rd uimm csr) }
+    ensures word { result ≡ word_of (Instr.CsrImm op rd uimm csr) }
+{
+    i_format(
+        0x73,
+        rd,
+        4 + funct3_of_csr(op),
+        RegNo::new(uimm).unwrap(),
+        csr.into(),
+    )
 }
 
 /// A signed number as 12 bits.
@@ -108,33 +143,6 @@ fn bits_21(number: i32) -> u32
     } else {
         number as u32
     }
-}
-
-/// The bits 31:20 of an operation on an immediate. Those of a shift have funct7 above the amount.
-fn alu_immediate(op: Alu, imm: i32) -> u32
-    requires range { IsImmediate op imm }
-    ensures value { result ≡ 2 ^ 5 * funct7_of_alu op + two_complement 12 imm }
-    ensures bound { result < 2 ^ 12 }
-{
-    match op {
-        Alu::Sra => 0x400 + bits_12(imm),
-        _ => bits_12(imm),
-    }
-}
-
-/// The word of a CSR instruction on an immediate, which stands in the place of rs1.
-fn csr_immediate(op: CsrOp, rd: RegNo, uimm: u8, csr: u16) -> u32
-    requires uimm { uimm < 32 }
-    requires csr { csr < 2 ^ 12 }
-    ensures value { result ≡ i_format 0x73 rd (4 + funct3_of_csr op) uimm csr }
-{
-    i_format(
-        0x73,
-        rd,
-        4 + funct3_of_csr(op),
-        RegNo::new(uimm).unwrap(),
-        csr.into(),
-    )
 }
 
 /// The funct3 of a branch.

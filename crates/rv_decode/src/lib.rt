@@ -11,3 +11,6 @@ mod formats;
 pub use decoding::decode;
 pub use encoding::encode;
 pub use isa_model::{Alu, Cmp, CsrOp, Instr, LoadKind, RegNo, StoreKind};
+
+#[cfg(test)]
+mod tests;
