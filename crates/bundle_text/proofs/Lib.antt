@@ -5,3 +5,6 @@ pub mod Rest
 pub mod CodeLines
 pub mod DigitChars
 pub mod Numerals
+pub mod Joins
+pub mod LineForms
+pub mod BundleForm

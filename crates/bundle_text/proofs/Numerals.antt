@@ -1,5 +1,5 @@
 -- The numbers that are decided are those of the form.
-use Rattle.std.proofs.Common.{◌≡◌, ℕ, zero, suc, ◌+◌, ◌-◌, ◌*◌, ◌<◌, ◌≤◌, Bool, true, false, cond, eqb, leb, List, [], ◌∷◌, length, map, Option, Some, None, refl, sym, ap, ◌∙◌, arith, eq-eqb}
+use Rattle.std.proofs.Common.{◌≡◌, ℕ, zero, suc, ◌+◌, ◌-◌, ◌*◌, ◌<◌, ◌≤◌, Bool, true, false, ◌&&◌, cond, eqb, leb, List, [], ◌∷◌, length, map, Option, Some, None, refl, sym, ap, ◌∙◌, arith, eq-eqb}
 use Rattle.std.specs.List.{list_all}
 use Rattle.std.specs.Int.Digits.{AllBelowBase, number_from_digits, number_from_digits_after}
 use Rattle.std.proofs.lemmas.Bool.{and_parts, and_from, leb-true, le-leb, eqb-true}
@@ -8,6 +8,10 @@ use Rattle.bundle_text.specs.Form.{digit_char, IsNumeral, IsDecimal}
 use Rattle.bundle_text.specs.Numbers.{is_decimal_digit, decimal_after, decimal_of, number_within, hex_digit_of, with_digit, with_char, hex_after, hex_word_of}
 use Rattle.bundle_text.proofs.HexDigits.{hex_after-None}
 use Rattle.bundle_text.proofs.DigitChars.{is_decimal_digit-char, char-minus, hex_digit_of-char, is_plain, is_plain-char, digit_bounds, char-of_decimal, char-of_hex}
+
+cond_none : (t : Bool) (o : Option ℕ) (y : ℕ) → cond t o None ≡ Some y → (t ≡ true) × (o ≡ Some y)
+cond_none true o y e = (refl, e)
+cond_none false o y e = absurd (none-some y e)
 
 -- ---- decimals
 
@@ -37,10 +41,6 @@ decimal_digits n m (b ∷ bs) h =
     let p = cond_none (is_decimal_digit b) (decimal_after (n * 10 + (b - 48)) bs) m h in
     let q = digit_bounds b p.0 in
     one_more 10 n (b - 48) b m bs (omega arith) (sym (char-of_decimal b p.0)) (decimal_digits (n * 10 + (b - 48)) m bs p.1)
-  where
-    cond_none : (t : Bool) (o : Option ℕ) (y : ℕ) → cond t o None ≡ Some y → (t ≡ true) × (o ≡ Some y)
-    cond_none true o y e = (refl, e)
-    cond_none false o y e = absurd (none-some y e)
 
 pub decimal_form : (text : List ℕ) (n : ℕ) → decimal_of text ≡ Some n → IsDecimal text n
 decimal_form [] n h = absurd (none-some n h)
@@ -79,24 +79,22 @@ within_found low high n at_least at_most = rw (le-leb low n at_least, le-leb n h
 
 hex_after-digits : (n : ℕ) (ds : List ℕ) → AllBelowBase 16 ds → hex_after (Some n) (map digit_char ds) ≡ Some (number_from_digits_after 16 n ds)
 hex_after-digits n [] h = refl
-hex_after-digits n (d ∷ ds) h = rw (hex_digit_of-char d h.0) (hex_after-digits (n * 16 + d) ds h.1)
+hex_after-digits n (d ∷ ds) h = ap (λ o. hex_after (with_digit n o) (map digit_char ds)) (hex_digit_of-char d h.0) ∙ hex_after-digits (n * 16 + d) ds h.1
+
+hex_digits_then : (n m b : ℕ) (bs : List ℕ) (o : Option ℕ) → hex_digit_of b ≡ o → hex_after (with_digit n o) bs ≡ Some m
+    → ((k : ℕ) → hex_after (Some k) bs ≡ Some m → Digits 16 k m bs) → Digits 16 n m (b ∷ bs)
+hex_digits_then n m b bs None e h more = absurd (none-some m (sym (hex_after-None bs) ∙ h))
+hex_digits_then n m b bs (Some d) e h more = let p = char-of_hex b d e in one_more 16 n d b m bs p.0 p.1 (more (n * 16 + d) h)
 
 hex_digits : (n m : ℕ) (text : List ℕ) → hex_after (Some n) text ≡ Some m → Digits 16 n m text
-hex_digits_of : (n m b : ℕ) (bs : List ℕ) (o : Option ℕ) → hex_digit_of b ≡ o → hex_after (with_digit n o) bs ≡ Some m → Digits 16 n m (b ∷ bs)
 hex_digits n m [] h = record { digits = []; below = tt; spelled = refl; value = sym (same_Some n m h) }
-hex_digits n m (b ∷ bs) h = hex_digits_of n m b bs (hex_digit_of b) refl h
-hex_digits_of n m b bs None e h = absurd (none-some m (sym (hex_after-None bs) ∙ h))
-hex_digits_of n m b bs (Some d) e h = let p = char-of_hex b d e in one_more 16 n d b m bs p.0 p.1 (hex_digits (n * 16 + d) m bs h)
+hex_digits n m (b ∷ bs) h = hex_digits_then n m b bs (hex_digit_of b) refl h (λ k e. hex_digits k m bs e)
 
 pub hex_form : (text : List ℕ) (word : ℕ) → hex_word_of text ≡ Some word → IsNumeral 16 text word × (length text ≡ 8)
 hex_form text word h =
     let p = cond_none (eqb (length text) 8) (hex_after (Some 0) text) word h in
     let found = hex_digits 0 word text p.1 in
     (record { digits = found.digits; below = found.below; spelled = found.spelled; value = found.value }, eqb-true (length text) 8 p.0)
-  where
-    cond_none : (t : Bool) (o : Option ℕ) (y : ℕ) → cond t o None ≡ Some y → (t ≡ true) × (o ≡ Some y)
-    cond_none true o y e = (refl, e)
-    cond_none false o y e = absurd (none-some y e)
 
 pub hex_found : (text : List ℕ) (word : ℕ) → IsNumeral 16 text word → length text ≡ 8 → hex_word_of text ≡ Some word
 hex_found text word numeral eight =

@@ -5,6 +5,7 @@
 #![tactic(auto)]
 
 pub mod bundle;
+pub mod laws;
 mod numbers;
 mod pieces;
 mod reading;

@@ -11,7 +11,8 @@ ghost use Rattle.bundle_text.specs.Answer.{Answers, Refuses};
 use crate::bundle::{Bundle, BundleFault, BundleKind, Code, TaskText, Tasks};
 use crate::numbers::{decimal, hex_word};
 use crate::pieces::{cut_line, cut_token};
-use isa_model::words::Words;
+use isa_model::{Alu, Instr, Words};
+use rv_decode::decode;
 use std::alloc::{AllocError, Global};
 
 /// How many words a task's code has at most.
@@ -74,11 +75,26 @@ fn limits(line: &[u8]) -> Option<(u32, u32)>
     Some((fuel, out_max))
 }
 
-/// Whether a word is that of an instruction that code may have.
+/// Whether an instruction may stand in code: LUI, ADDI, ADD and ECALL.
+fn is_instr_of_code(instr: Instr) -> bool
+    ensures value { result ≡ is_code_instr instr }
+{
+    match instr {
+        Instr::Lui { .. } | Instr::Ecall => true,
+        Instr::AluImm { op: Alu::Add, .. } | Instr::AluReg { op: Alu::Add, .. } => true,
+        _ => false,
+    }
+}
+
+/// Whether a word is that of an instruction that may stand in code.
+#[tactic(auto, unfolding(crate::specs::CodeWord::is_code_word))]
 fn is_of_code(word: u32) -> bool
     ensures value { result ≡ is_code_word word }
 {
-    word == 0
+    match decode(word) {
+        Some(instr) => is_instr_of_code(instr),
+        None => false,
+    }
 }
 
 /// The word of a token, if it may stand in code.
