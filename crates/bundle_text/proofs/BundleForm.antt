@@ -1,10 +1,10 @@
 -- The decision gives exactly the bundles of the form.
-use Rattle.std.proofs.Common.{◌≡◌, ◌↔◌, ℕ, ◌≤◌, Bool, true, false, cond, leb, List, [], ◌∷◌, ◌++◌, length, Option, Some, None, codes, refl, sym, ap, subst, ◌∙◌, arith, append_assoc}
+use Rattle.std.proofs.Common.{◌≡◌, ℕ, ◌≤◌, Bool, true, false, cond, leb, List, [], ◌∷◌, ◌++◌, length, Some, None, codes, refl, sym, ap, subst, ◌∙◌, arith, append_assoc}
 use Rattle.std.specs.List.{AllByRecursion, AllZip, concat}
 use Rattle.std.proofs.lemmas.Bool.{leb-true, le-leb}
 use Rattle.std.proofs.lemmas.Option.{none-some, same_Some, cond_some}
 use Rattle.bundle_text.specs.Pieces.{lines, tokens}
-use Rattle.bundle_text.specs.Grammar.{◌>>=◌, version_of, slots_of, limits_of, words_of, is_endtask, words_at_end, code_of, bundle_with, head_of, bundle_of}
+use Rattle.bundle_text.specs.Grammar.{◌>>=◌, version_of, slots_of, limits_of, words_of, is_endtask, words_at_end, code_of, head_of, bundle_of}
 use Rattle.bundle_text.specs.Form.{text_of, IsHeaderLine, IsSlotsLine, IsTaskLine, IsWordsLine, IsTaskBlock, Reads}
 use Rattle.bundle_text.specs.Range.{IsTaskInRange, IsInRange, code_length}
 use Rattle.bundle_text.specs.declared.bundle.Bundle.{Bundle}

@@ -1,6 +1,6 @@
 -- A line of words more, and the end of the text.
-use Rattle.std.proofs.Common.{◌≡◌, ℕ, suc, ◌+◌, ◌==◌, Bool, true, false, cond, List, [], ◌∷◌, ◌++◌, length, Option, Some, None, is_some, refl, ap, sym, ◌∙◌, append_assoc, add-one, arith}
-use Rattle.std.specs.List.{slice_split, onto_first}
+use Rattle.std.proofs.Common.{◌≡◌, ℕ, suc, ◌==◌, Bool, true, false, cond, List, [], ◌∷◌, ◌++◌, length, Option, Some, None, is_some, refl, ap, sym, ◌∙◌, append_assoc, arith}
+use Rattle.std.specs.List.{onto_first}
 use Rattle.bundle_text.specs.Pieces.{lines, tokens, is_line_end}
 use Rattle.bundle_text.specs.Grammar.{◌>>=◌, Adds, words_at_end, code_of, words_of, is_endtask}
 use Rattle.bundle_text.proofs.Tokens.{IsMore, split_more}

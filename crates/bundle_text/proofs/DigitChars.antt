@@ -1,7 +1,7 @@
 -- The characters of digits, each number below a bound tried.
-use Rattle.std.proofs.Common.{◌≡◌, ℕ, ◌+◌, ◌-◌, ◌<◌, ◌≤◌, Bool, true, false, not, ◌&&◌, ◌||◌, cond, eqb, leb, ◌⊎◌, inl, inr, Option, Some, None, unwrap_or, refl, sym, ap, ◌∙◌, arith}
-use Rattle.std.proofs.lemmas.Bool.{agree_below_at, eqb-true, leb-true, and_parts, or_cases, true≢false}
-use Rattle.std.proofs.lemmas.Option.{none-some, same_Some, cond_some}
+use Rattle.std.proofs.Common.{◌≡◌, ℕ, ◌-◌, ◌<◌, ◌≤◌, Bool, true, false, not, ◌&&◌, ◌||◌, cond, eqb, leb, ◌⊎◌, inl, inr, Option, Some, None, unwrap_or, refl, sym, ap, ◌∙◌, arith}
+use Rattle.std.proofs.lemmas.Bool.{agree_below_at, eqb-true, leb-true, and_parts, true≢false}
+use Rattle.std.proofs.lemmas.Option.{same_Some, cond_some}
 use Rattle.bundle_text.specs.Form.{digit_char}
 use Rattle.bundle_text.specs.Pieces.{is_blank, is_line_end}
 use Rattle.bundle_text.specs.Numbers.{is_decimal_digit, hex_digit_of}

@@ -1,10 +1,9 @@
 -- The definitions at written-out values.
-use Rattle.std.proofs.Common.{◌≡◌, ℕ, true, false, List, [], ◌∷◌, ◌++◌, Some, None, codes, refl}
+use Rattle.std.proofs.Common.{◌≡◌, ℕ, true, false, List, [], ◌∷◌, Some, codes, refl}
 use Rattle.bundle_text.specs.CodeWord.{is_code_word}
 use Rattle.bundle_text.specs.Pieces.{lines}
 use Rattle.bundle_text.specs.Grammar.{limits_of, bundle_of}
 use Rattle.bundle_text.specs.Form.{text_of}
-use Rattle.bundle_text.specs.declared.bundle.Bundle.{Bundle}
 use Rattle.bundle_text.specs.declared.bundle.Code.TheVariants.{Words}
 
 addi_is : is_code_word 0x02a00513 ≡ true
@@ -41,8 +40,8 @@ example =
 
 -- a bundle is read from its text
 example_read : bundle_of (lines (text_of example)) ≡ Some (record {
-    slots = 1;
-    tasks = record { fuel = 5; out_max = 4; data_len = 0; tape = []; code = Words (0x02a00513 ∷ 0x00000073 ∷ []) } ∷ [];
-  })
+  slots = 1;
+  tasks = record { fuel = 5; out_max = 4; data_len = 0; tape = []; code = Words (0x02a00513 ∷ 0x00000073 ∷ []) } ∷ [];
+})
 unfolding bundle_of limits_of is_code_word example
 example_read = refl

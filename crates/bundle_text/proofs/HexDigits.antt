@@ -1,7 +1,7 @@
 -- Hexadecimal digits, one after another.
-use Rattle.std.proofs.Common.{◌≡◌, ℕ, ◌+◌, ◌*◌, ◌<◌, ◌≤◌, ◌^◌, ◌∙◌, List, [], ◌∷◌, length, drop, get_or, refl, ap, arith, Option, Some, None, add-one, drop-cons, zero, suc}
+use Rattle.std.proofs.Common.{◌≡◌, ℕ, ◌+◌, ◌*◌, ◌<◌, ◌≤◌, ◌^◌, ◌∙◌, List, [], ◌∷◌, length, drop, get_or, refl, ap, arith, Option, None, add-one, drop-cons, suc}
 use Rattle.std.proofs.Math.Nat.{pow-le-pow_right, pow-suc}
-use Rattle.bundle_text.specs.Numbers.{hex_after, hex_digit_of, with_digit, with_char}
+use Rattle.bundle_text.specs.Numbers.{hex_after, with_char}
 
 pub hex_after-None : (bs : List ℕ) → hex_after None bs ≡ None
 hex_after-None [] = refl

@@ -1,13 +1,12 @@
 -- The pieces of a text are those that join to it.
-use Rattle.std.proofs.Common.{◌≡◌, ℕ, Bool, true, false, not, ◌&&◌, cond, eqb, List, [], ◌∷◌, ◌++◌, length, ◌⊎◌, inl, inr, refl, sym, ap, ◌∙◌, arith}
-use Rattle.std.specs.List.{All, AllByRecursion, slice_split, onto_first, join_with_byte, list_all}
+use Rattle.std.proofs.Common.{◌≡◌, ℕ, Bool, true, false, not, cond, eqb, List, [], ◌∷◌, ◌++◌, inl, inr, refl, sym, ap, ◌∙◌}
+use Rattle.std.specs.List.{All, AllByRecursion, onto_first, join_with_byte, list_all}
 use Rattle.std.proofs.lemmas.Bool.{and_parts, not-true, or_cases, eqb-true}
 use Rattle.std.proofs.lemmas.List.Elements.{All-weaker, All-append, All-cons}
 use Rattle.std.proofs.lemmas.List.Splits.{slice_split_none, slice_split_at, join_with_byte-slice_split}
 use Rattle.std.proofs.lemmas.List.Sums.{AllPass-from_list_all}
-use Rattle.bundle_text.specs.declared.pieces.TheConstants.{LINE_END, SPACE, TAB}
 use Rattle.bundle_text.specs.Pieces.{lines, tokens, is_line_end, is_blank}
-use Rattle.bundle_text.specs.Form.{text_of, IsBlank, IsLineOf}
+use Rattle.bundle_text.specs.Form.{line_end, text_of, IsBlank, IsLineOf}
 use Rattle.bundle_text.proofs.DigitChars.{is_plain}
 
 -- no byte of the token parts tokens or lines
@@ -44,7 +43,7 @@ blank_no_end b (inr e) = ap is_line_end e
 
 blank_from : (b : ℕ) → is_blank b ≡ true → IsBlank b
 blank_from b h =
-    elim (or_cases (eqb b SPACE) (eqb b TAB) h) as (λ _. IsBlank b) [ inl e ↦ inl (eqb-true b SPACE e) | inr e ↦ inr (eqb-true b TAB e) ]
+    elim (or_cases (eqb b 0x20) (eqb b 0x09) h) as (λ _. IsBlank b) [ inl e ↦ inl (eqb-true b 0x20 e) | inr e ↦ inr (eqb-true b 0x09 e) ]
 
 blank_more : (b : ℕ) (ts : List (List ℕ)) (line : List ℕ) → IsBlank b → IsLineOf ts line → IsLineOf ([] ∷ ts) (b ∷ line)
 blank_more b [] line blank h = absurd h
@@ -86,12 +85,12 @@ line_lacks_end (t ∷ u ∷ ts) line plain h =
 -- the lines of a text that ends with a line end are those that make it, and an empty one
 pub lines_are : (ls : List (List ℕ)) → AllByRecursion LacksEnd ls → lines (text_of ls) ≡ ls ++ [] ∷ []
 lines_are [] h = refl
-lines_are (l ∷ ls) h = slice_split_at is_line_end l LINE_END (text_of ls) h.0 refl ∙ ap (λ rest. l ∷ rest) (lines_are ls h.1)
+lines_are (l ∷ ls) h = slice_split_at is_line_end l line_end (text_of ls) h.0 refl ∙ ap (λ rest. l ∷ rest) (lines_are ls h.1)
 
-joined_text : (ls : List (List ℕ)) → join_with_byte LINE_END (ls ++ [] ∷ []) ≡ text_of ls
+joined_text : (ls : List (List ℕ)) → join_with_byte line_end (ls ++ [] ∷ []) ≡ text_of ls
 joined_text [] = refl
 joined_text (l ∷ []) = refl
-joined_text (l ∷ m ∷ ls) = ap (λ rest. l ++ LINE_END ∷ rest) (joined_text (m ∷ ls))
+joined_text (l ∷ m ∷ ls) = ap (λ rest. l ++ line_end ∷ rest) (joined_text (m ∷ ls))
 
 pub text_from_lines : (bytes : List ℕ) (ls : List (List ℕ)) → lines bytes ≡ ls ++ [] ∷ [] → bytes ≡ text_of ls
-text_from_lines bytes ls e = sym (join_with_byte-slice_split LINE_END bytes) ∙ ap (join_with_byte LINE_END) e ∙ joined_text ls
+text_from_lines bytes ls e = sym (join_with_byte-slice_split line_end bytes) ∙ ap (join_with_byte line_end) e ∙ joined_text ls

@@ -1,11 +1,11 @@
 -- The numbers that are decided are those of the form.
-use Rattle.std.proofs.Common.{◌≡◌, ℕ, zero, suc, ◌+◌, ◌-◌, ◌*◌, ◌<◌, ◌≤◌, Bool, true, false, ◌&&◌, cond, eqb, leb, List, [], ◌∷◌, length, map, Option, Some, None, refl, sym, ap, ◌∙◌, arith, eq-eqb}
+use Rattle.std.proofs.Common.{◌≡◌, ℕ, ◌+◌, ◌-◌, ◌*◌, ◌<◌, ◌≤◌, Bool, true, false, ◌&&◌, cond, eqb, leb, List, [], ◌∷◌, length, map, Option, Some, None, refl, sym, ap, ◌∙◌, arith, eq-eqb}
 use Rattle.std.specs.List.{list_all}
-use Rattle.std.specs.Int.Digits.{AllBelowBase, number_from_digits, number_from_digits_after}
+use Rattle.std.specs.Int.Digits.{AllBelowBase, number_from_digits_after}
 use Rattle.std.proofs.lemmas.Bool.{and_parts, and_from, leb-true, le-leb, eqb-true}
 use Rattle.std.proofs.lemmas.Option.{none-some, same_Some, cond_some}
 use Rattle.bundle_text.specs.Form.{digit_char, IsNumeral, IsDecimal}
-use Rattle.bundle_text.specs.Numbers.{is_decimal_digit, decimal_after, decimal_of, number_within, hex_digit_of, with_digit, with_char, hex_after, hex_word_of}
+use Rattle.bundle_text.specs.Numbers.{is_decimal_digit, decimal_after, decimal_of, number_within, hex_digit_of, with_digit, hex_after, hex_word_of}
 use Rattle.bundle_text.proofs.HexDigits.{hex_after-None}
 use Rattle.bundle_text.proofs.DigitChars.{is_decimal_digit-char, char-minus, hex_digit_of-char, is_plain, is_plain-char, digit_bounds, char-of_decimal, char-of_hex}
 

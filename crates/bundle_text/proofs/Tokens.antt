@@ -1,5 +1,5 @@
 -- What follows a blank is at least one token.
-use Rattle.std.proofs.Common.{◌≡◌, ℕ, Bool, true, false, cond, List, [], ◌∷◌, Option, Some, None, option_map, option_copied, Bor, refl, ap, ◌∙◌, IsSome}
+use Rattle.std.proofs.Common.{◌≡◌, ℕ, Bool, true, false, cond, List, [], ◌∷◌, Option, Some, None, option_map, option_copied, Bor, refl, IsSome}
 use Rattle.std.specs.List.{slice_split, onto_first}
 use Rattle.std.specs.Str.{bytes_eq}
 use Rattle.bundle_text.specs.Pieces.{tokens, is_blank, pieces_after}

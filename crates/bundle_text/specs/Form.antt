@@ -7,15 +7,19 @@ use Rattle.bundle_text.specs.CodeWord.{is_code_word}
 use Rattle.bundle_text.specs.declared.bundle.Bundle.{Bundle}
 use Rattle.bundle_text.specs.declared.bundle.TaskText.{TaskText}
 use Rattle.bundle_text.specs.declared.bundle.Code.TheVariants.{Words}
-use Rattle.bundle_text.specs.declared.pieces.TheConstants.{LINE_END, SPACE, TAB}
+
+-- LF
+abbrev pub line_end : ℕ
+line_end = 0x0a
+
+-- a space or a tab
+abbrev pub IsBlank : ℕ → Type 0
+IsBlank b = (b ≡ 0x20) ⊎ (b ≡ 0x09)
 
 -- the lines, each followed by a line end
 abbrev pub text_of : List (List ℕ) → List ℕ
 text_of [] = []
-text_of (line ∷ others) = line ++ LINE_END ∷ text_of others
-
-abbrev pub IsBlank : ℕ → Type 0
-IsBlank b = (b ≡ SPACE) ⊎ (b ≡ TAB)
+text_of (line ∷ others) = line ++ line_end ∷ text_of others
 
 -- The line is these tokens, of which there is at least one, with one blank between each two.
 abbrev pub IsLineOf : List (List ℕ) → List ℕ → Type 0

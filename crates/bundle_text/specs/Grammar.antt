@@ -6,7 +6,6 @@ use Rattle.bundle_text.specs.CodeWord.{is_code_word}
 use Rattle.bundle_text.specs.Pieces.{tokens}
 use Rattle.bundle_text.specs.Numbers.{decimal_of, number_within, hex_word_of}
 use Rattle.bundle_text.specs.declared.bundle.Bundle.{Bundle}
-use Rattle.bundle_text.specs.declared.bundle.TaskText.{TaskText}
 use Rattle.bundle_text.specs.declared.bundle.Code.TheVariants.{Words}
 
 infixl 10 ◌>>=◌

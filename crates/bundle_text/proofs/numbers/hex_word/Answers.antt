@@ -1,6 +1,6 @@
 -- A digit more, and what isn't one.
-use Rattle.std.proofs.Common.{◌≡◌, ◌<◌, ◌+◌, ◌*◌, ◌∙◌, arith, sym, ap, length, get_or, drop, Some, None, refl, cond, eqb, eq-eqb}
-use Rattle.bundle_text.specs.Numbers.{hex_after, hex_digit_of, hex_word_of, with_digit}
+use Rattle.std.proofs.Common.{◌≡◌, ◌+◌, ◌*◌, ◌∙◌, arith, sym, ap, drop, Some, None}
+use Rattle.bundle_text.specs.Numbers.{hex_after, with_digit}
 use Rattle.bundle_text.proofs.HexDigits.{hex_after-None, hex_after-more, seven, grows}
 use Rattle.bundle_text.proofs.numbers.hex_word.Goals as goal
 

@@ -1,5 +1,5 @@
 -- The digits so far make a number of as many digits.
-use Rattle.std.proofs.Common.{◌≡◌, ℕ, ◌<◌, ◌^◌, drop, length, Some}
+use Rattle.std.proofs.Common.{◌≡◌, ◌<◌, ◌^◌, drop, length, Some}
 use Rattle.bundle_text.specs.Numbers.{hex_after}
 use Rattle.bundle_text.proofs.numbers.hex_word.Given as goal
 

@@ -1,7 +1,6 @@
 -- Cut at the first byte that parts.
-use Rattle.std.proofs.Common.{◌≡◌, ◌<◌, ◌+◌, ◌∙◌, arith, true, get_or, length, eq-eqb, ap, ◌∷◌, take}
+use Rattle.std.proofs.Common.{◌≡◌, arith, true, get_or}
 use Rattle.std.proofs.lemmas.List.{take_rest}
-use Rattle.std.specs.List.{slice_split}
 use Rattle.bundle_text.specs.Pieces.{is_blank}
 use Rattle.bundle_text.proofs.Cut.{cut_some, cut_none}
 use Rattle.bundle_text.proofs.pieces.cut_token.Goals as goal

@@ -1,7 +1,7 @@
 -- The words of a line more.
-use Rattle.std.proofs.Common.{◌≡◌, sym, ◌∙◌, true, ap, option_copied, Some, false, ◌++◌}
-use Rattle.bundle_text.specs.Pieces.{tokens, lines, lines_after}
-use Rattle.bundle_text.specs.Grammar.{Adds, words_of, code_of, ◌>>=◌, is_endtask}
+use Rattle.std.proofs.Common.{◌≡◌, sym, ◌∙◌, option_copied, false}
+use Rattle.bundle_text.specs.Pieces.{tokens, lines_after}
+use Rattle.bundle_text.specs.Grammar.{is_endtask}
 use Rattle.bundle_text.proofs.CodeLines.{one_more}
 use Rattle.bundle_text.proofs.reading.code_words.Goals as goal
 

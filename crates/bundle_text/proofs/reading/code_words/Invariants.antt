@@ -1,5 +1,5 @@
 -- The words so far, and those of the lines that are left, are the code.
-use Rattle.std.proofs.Common.{◌≡◌, ℕ, List, ◌++◌, Some, option_copied}
+use Rattle.std.proofs.Common.{◌≡◌, ◌++◌, Some, option_copied}
 use Rattle.bundle_text.specs.Grammar.{code_of, ◌>>=◌}
 use Rattle.bundle_text.specs.Pieces.{lines_after}
 use Rattle.bundle_text.proofs.Rest.{left}

@@ -1,8 +1,6 @@
 -- By what follows the first token.
-use Rattle.std.proofs.Common.{arith, ap, sym, ◌∙◌, IsSome}
-use Rattle.bundle_text.proofs.Tokens.{after_word_cut, number_more, last_cut, end_cut, split_more}
-use Rattle.bundle_text.specs.Pieces.{tokens, is_blank}
-use Rattle.bundle_text.specs.Grammar.{after_word, number_then, last_number, is_endtask}
+use Rattle.std.proofs.Common.{arith, sym, ◌∙◌}
+use Rattle.bundle_text.proofs.Tokens.{end_cut}
 use Rattle.bundle_text.proofs.reading.ends_task.Goals as goal
 
 pub returns-else-is_none : goal.returns-else-is_none

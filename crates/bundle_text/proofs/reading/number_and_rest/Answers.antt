@@ -1,8 +1,7 @@
 -- By what follows the first token.
-use Rattle.std.proofs.Common.{arith, ap, sym, ◌∙◌, IsSome, option_map}
-use Rattle.bundle_text.proofs.Tokens.{after_word_cut, number_more, last_cut, end_cut, split_more}
+use Rattle.std.proofs.Common.{ap, sym, ◌∙◌, option_map}
+use Rattle.bundle_text.proofs.Tokens.{number_more, split_more}
 use Rattle.bundle_text.specs.Pieces.{tokens, is_blank}
-use Rattle.bundle_text.specs.Grammar.{after_word, number_then, last_number, is_endtask}
 use Rattle.bundle_text.proofs.reading.number_and_rest.Goals as goal
 
 pub returns : goal.returns

@@ -1,5 +1,5 @@
 -- What is decided is what the form says.
-use Rattle.std.proofs.Common.{◌≡◌, Some, None, sym, ◌∙◌, refl}
+use Rattle.std.proofs.Common.{◌≡◌, Some, None, sym, refl}
 use Rattle.bundle_text.specs.Pieces.{lines}
 use Rattle.bundle_text.specs.Grammar.{bundle_of}
 use Rattle.bundle_text.proofs.BundleForm.{decision_form, form_range, none_form}

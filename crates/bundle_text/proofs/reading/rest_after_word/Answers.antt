@@ -1,8 +1,5 @@
 -- By what follows the first token.
-use Rattle.std.proofs.Common.{arith, ap, sym, ◌∙◌, IsSome}
-use Rattle.bundle_text.proofs.Tokens.{after_word_cut, number_more, last_cut, end_cut, split_more}
-use Rattle.bundle_text.specs.Pieces.{tokens, is_blank}
-use Rattle.bundle_text.specs.Grammar.{after_word, number_then, last_number, is_endtask}
+use Rattle.bundle_text.proofs.Tokens.{after_word_cut}
 use Rattle.bundle_text.proofs.reading.rest_after_word.Goals as goal
 
 pub returns-then-eq : goal.returns-then-eq

@@ -1,8 +1,6 @@
 -- By what follows the first token.
-use Rattle.std.proofs.Common.{arith, ap, sym, ◌∙◌, IsSome}
-use Rattle.bundle_text.proofs.Tokens.{after_word_cut, number_more, last_cut, end_cut, split_more}
-use Rattle.bundle_text.specs.Pieces.{tokens, is_blank}
-use Rattle.bundle_text.specs.Grammar.{after_word, number_then, last_number, is_endtask}
+use Rattle.std.proofs.Common.{arith, sym}
+use Rattle.bundle_text.proofs.Tokens.{last_cut}
 use Rattle.bundle_text.proofs.reading.whole_number.Goals as goal
 
 pub returns-then-is_some : goal.returns-then-is_some
