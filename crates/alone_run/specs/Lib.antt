@@ -1,0 +1,3 @@
+pub mod DataWords
+pub mod OutputWords
+pub mod StandsFor

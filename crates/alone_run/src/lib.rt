@@ -1,0 +1,8 @@
+//! A task on a hart of its own, an instruction at a time and to its end.
+#![tactic(auto)]
+
+mod data;
+mod latches;
+mod output;
+
+pub use isa_model::{Control, Deed, End, EndKind, Latch, Task, Words};
