@@ -15,11 +15,11 @@ latch_value m latches.Res = m.res
 latch_value m latches.Load = m.load
 latch_value m latches.Store = m.store
 latch_value m latches.Scr = 0
-latch_value m (latches.Mem at) = if at % 4 == 0 then unwrap_or (data_word m.data at) 0 else 0
+latch_value m (latches.Mem at) = if at % 4 == 0 then unwrap_or (data_word m.memory at) 0 else 0
 
 -- latches that have these values, with the data of this task
 pub record Holds (T : Task) (m : Latches) (value : Latch → ℕ) : Type 0 where
   pub values : (l : Latch) → latch_value m l ≡ value l
-  pub data_at : m.data.at ≡ T.data_at
-  pub data_len : length m.data.words ≡ T.data_len
+  pub data_at : m.memory.at ≡ T.data_at
+  pub data_len : length m.memory.words ≡ T.data_len
   pub aligned : T.data_at % 4 ≡ 0

@@ -20,7 +20,7 @@ pub(crate) struct Latches {
     pub res: u32,
     pub load: u32,
     pub store: u32,
-    pub data: Data,
+    pub memory: Data,
 }
 
 impl Latches {
@@ -40,7 +40,7 @@ impl Latches {
             Latch::Scr => 0,
             Latch::Mem(at) => {
                 if at % 4 == 0 {
-                    self.data.get(at).unwrap_or(0)
+                    self.memory.get(at).unwrap_or(0)
                 } else {
                     0
                 }
@@ -103,18 +103,18 @@ impl Latches {
 
     /// The data word that an address lies in.
     pub(crate) fn data_word(&self, at: u32) -> Option<u32>
-        ensures word { result ≡ data_word self.now.data at }
+        ensures word { result ≡ data_word self.now.memory at }
         ensures held { (T : Task) (v : Latch → ℕ) → Holds T self.now v → result ≡ data_word_at T v at }
     {
-        self.data.get(at)
+        self.memory.get(at)
     }
 
     /// Writes the data word that an address lies in.
     pub(crate) fn write_data(&mut self, at: u32, word: u32)
-        requires within { IsSome (data_word self.old.data at) }
+        requires within { IsSome (data_word self.old.memory at) }
         ensures held { (T : Task) (v : Latch → ℕ) → Holds T self.old v →
             Holds T self.new (with_value (Latch.Mem (word_address at)) word v) }
     {
-        self.data.set(at, word);
+        self.memory.set(at, word);
     }
 }
