@@ -1,0 +1,10 @@
+//! Instructions and their words: from a word to its instruction and back (unprivileged manual, "RV32I Base Integer
+//! Instruction Set" and "Zicsr"; privileged manual, "Trap-Return Instructions"). The instructions themselves, and the table of
+//! bit patterns that the contracts speak of, are those of `isa_model`.
+#![tactic(auto)]
+
+mod decoding;
+mod fields;
+
+pub use decoding::decode;
+pub use isa_model::{Alu, Cmp, CsrOp, Instr, LoadKind, RegNo, StoreKind};
