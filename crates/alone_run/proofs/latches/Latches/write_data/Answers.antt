@@ -3,4 +3,4 @@ use Rattle.alone_run.proofs.DataWrite.{data-written}
 use Rattle.alone_run.proofs.latches.Latches.write_data.Goals as goal
 
 pub returns : goal.returns
-returns c T v h = rw c.set.ensures (data-written T c.args.self.now v c.args.at c.args.word c.requires h)
+returns c = record { held = λ T v h. rw c.set.ensures.written (data-written T c.args.self.now v c.args.at c.args.word c.requires.within h) }
