@@ -9,7 +9,7 @@ use Rattle.isa_model.specs.declared.latch.Latch.TheVariants as latches
 use Rattle.isa_model.specs.declared.task.Task.{Task}
 use Rattle.isa_model.specs.Alone.{with_value}
 use Rattle.alone_run.specs.DataWords.{DataWords, data_word, data_index, with_data_word}
-use Rattle.alone_run.specs.StandsFor.{Holds, latch_value}
+use Rattle.alone_run.specs.LatchValues.{Holds, latch_value}
 use Rattle.alone_run.specs.declared.latches.Latches.{Latches}
 
 -- what the latch of an address holds

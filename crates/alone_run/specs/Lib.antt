@@ -1,3 +1,4 @@
 pub mod DataWords
 pub mod OutputWords
+pub mod LatchValues
 pub mod StandsFor

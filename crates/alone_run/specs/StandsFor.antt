@@ -1,25 +1,25 @@
--- When a machine of the code stands for a state of the run alone.
-use Rattle.std.specs.Prelude.{◌≡◌, ℕ, ◌%◌, length, slice_index, unwrap_or, ◌==◌, if◌then◌else◌}
-use Rattle.isa_model.specs.declared.latch.Latch.{Latch}
-use Rattle.isa_model.specs.declared.latch.Latch.TheVariants as latches
+-- When a machine of the code stands for a state of the run alone, and what it leaves.
+use Rattle.std.specs.Prelude.{◌≡◌, Some}
+use Rattle.isa_model.specs.declared.control.Deed.{Deed}
+use Rattle.isa_model.specs.declared.instr.Instr.{Instr}
 use Rattle.isa_model.specs.declared.task.Task.{Task}
-use Rattle.alone_run.specs.DataWords.{data_word}
-use Rattle.alone_run.specs.declared.latches.Latches.{Latches}
+use Rattle.isa_model.specs.Alone.{AloneState, Executed, after_decode}
+use Rattle.alone_run.specs.LatchValues.{Holds}
+use Rattle.alone_run.specs.declared.machine.Machine.{Machine}
 
--- the value of a latch, and 0 for one that the task hasn't: mscratch, and an address that isn't one of its data words
-abbrev pub latch_value : Latches → Latch → ℕ
-latch_value m (latches.Reg r) = slice_index m.regs r
-latch_value m latches.PortA = m.port_a
-latch_value m latches.PortB = m.port_b
-latch_value m latches.Res = m.res
-latch_value m latches.Load = m.load
-latch_value m latches.Store = m.store
-latch_value m latches.Scr = 0
-latch_value m (latches.Mem at) = if at % 4 == 0 then unwrap_or (data_word m.memory at) 0 else 0
+pub record StandsFor (T : Task) (s : AloneState) (m : Machine) : Type 0 where
+  pub latches : Holds T m.latches s.value
+  pub pc : m.pc ≡ s.pc
+  pub output : m.output.words ≡ s.output
+  pub output_max : m.output.max ≡ T.out_max
+  pub tape_at : m.tape_at ≡ s.tape_at
+  pub end : m.end ≡ s.end
 
--- latches that have these values, with the data of this task
-pub record Holds (T : Task) (m : Latches) (value : Latch → ℕ) : Type 0 where
-  pub values : (l : Latch) → latch_value m l ≡ value l
-  pub data_at : m.memory.at ≡ T.data_at
-  pub data_len : length m.memory.words ≡ T.data_len
-  pub aligned : T.data_at % 4 ≡ 0
+-- a machine and a deed that are what an instruction leaves
+pub record Leaves (T : Task) (e : Executed) (made : Deed) (m : Machine) : Type 0 where
+  pub state : StandsFor T e.state m
+  pub deed : made ≡ e.deed
+
+-- An instruction that a machine does: whatever state the machine stood for, it stands for what the instruction leaves of it.
+abbrev pub Performs : Task → Instr → Machine → Deed → Machine → Type 0
+Performs T instr old made new = (s : AloneState) → StandsFor T s old → Leaves T (after_decode T (Some instr) s) made new

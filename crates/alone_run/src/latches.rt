@@ -24,7 +24,7 @@ pub(crate) struct Latches {
 }
 
 impl Latches {
-    ghost use Rattle.alone_run.specs.StandsFor.{Holds, latch_value};
+    ghost use Rattle.alone_run.specs.LatchValues.{Holds, latch_value};
 
     /// The value of a latch, and 0 for one that isn't here.
     pub(crate) fn value(&self, latch: Latch) -> u32
@@ -99,6 +99,13 @@ impl Latches {
         if number != 0 {
             self.regs[number as usize] = value;
         }
+    }
+
+    /// Writes a0.
+    pub(crate) fn write_a0(&mut self, value: u32)
+        ensures held { (T : Task) (v : Latch → ℕ) → Holds T self.old v → Holds T self.new (with_value (Latch.Reg 10) value v) }
+    {
+        self.regs[10] = value;
     }
 
     /// The data word that an address lies in.

@@ -3,6 +3,8 @@
 
 mod data;
 mod latches;
+mod machine;
 mod output;
+mod services;
 
 pub use isa_model::{Control, Deed, End, EndKind, Latch, Task, Words};
