@@ -2,8 +2,10 @@
 #![tactic(auto)]
 
 mod data;
+mod instructions;
 mod latches;
 mod machine;
+mod operands;
 mod output;
 mod services;
 
