@@ -11,7 +11,7 @@ ghost use Rattle.std.specs.Prelude.{◌≡◌, ◌+◌, ◌%◌, ◌^◌, ◌<�
 ghost use Rattle.alone_run.specs.StandsFor.{StandsFor, Leaves, Performs};
 
 use crate::machine::Machine;
-use crate::operands::{both_operands, first_operand, loaded_word, sum_of};
+use crate::operands::{both_operands, first_operand, immediate_bits, loaded_word, sum_of};
 use isa_model::{Alu, Cmp, Deed, LoadKind, RegNo, StoreKind, Task};
 use rv_exec::{alu, extract, load_aligned, merge, store_aligned, taken};
 
@@ -47,7 +47,7 @@ pub(crate) fn operate_immediate(machine: &mut Machine, op: Alu, rd: RegNo, rs1: 
     ensures performed { (T : Task) → Performs T (Instr.AluImm op rd rs1 imm) machine.old result machine.new }
 {
     let first = first_operand(machine, rs1);
-    let value = alu(op, first, imm.cast_unsigned());
+    let value = alu(op, first, immediate_bits(imm));
     give_result(machine, rd, value)
 }
 
@@ -79,7 +79,7 @@ fn jump_to(machine: &mut Machine, rd: RegNo, target: u32) -> Deed
 pub(crate) fn jump(machine: &mut Machine, rd: RegNo, off: i32) -> Deed
     ensures performed { (T : Task) → Performs T (Instr.Jal rd off) machine.old result machine.new }
 {
-    let target = machine.pc.wrapping_add(off.cast_unsigned());
+    let target = machine.pc.wrapping_add(immediate_bits(off));
     jump_to(machine, rd, target)
 }
 
@@ -92,6 +92,18 @@ pub(crate) fn jump_indirect(machine: &mut Machine, rd: RegNo, rs1: RegNo, imm: i
     jump_to(machine, rd, target)
 }
 
+/// Goes to an address, unless it is no multiple of 4: then it ends the task.
+fn branch_to(machine: &mut Machine, target: u32) -> Deed
+    ensures left { (T : Task) (s : AloneState) → StandsFor T s machine.old →
+        Leaves T (after_effect T Deed.Ran (jump_effect [] [] target) s) result machine.new }
+{
+    if target % 4 != 0 {
+        return machine.raise(0);
+    }
+    machine.pc = target;
+    Deed::Ran
+}
+
 /// A branch by an offset where the comparison holds.
 pub(crate) fn branch(machine: &mut Machine, op: Cmp, rs1: RegNo, rs2: RegNo, off: i32) -> Deed
     ensures performed { (T : Task) → Performs T (Instr.Branch op rs1 rs2 off) machine.old result machine.new }
@@ -100,12 +112,8 @@ pub(crate) fn branch(machine: &mut Machine, op: Cmp, rs1: RegNo, rs2: RegNo, off
     if !taken(op, first, second) {
         return machine.go_on(Deed::Ran);
     }
-    let target = machine.pc.wrapping_add(off.cast_unsigned());
-    if target % 4 != 0 {
-        return machine.raise(0);
-    }
-    machine.pc = target;
-    Deed::Ran
+    let target = machine.pc.wrapping_add(immediate_bits(off));
+    branch_to(machine, target)
 }
 
 /// What a load does with the word that it reached.

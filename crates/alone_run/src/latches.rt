@@ -86,6 +86,7 @@ impl Latches {
     /// Writes the last stored word.
     pub(crate) fn write_store(&mut self, value: u32)
         ensures held { (T : Task) (v : Latch → ℕ) → Holds T self.old v → Holds T self.new (with_value Latch.Store value v) }
+        ensures memory { self.new.memory ≡ self.old.memory }
     {
         self.store = value;
     }

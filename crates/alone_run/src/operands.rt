@@ -2,6 +2,7 @@
 
 ghost use Rattle.isa_model.specs.declared.latch.Latch.{Latch};
 ghost use Rattle.isa_model.specs.declared.task.Task.{Task};
+ghost use Rattle.isa_model.specs.Bits.{two_complement};
 ghost use Rattle.isa_model.specs.Effect.{address};
 ghost use Rattle.isa_model.specs.Alone.{AloneState, with_value, code_word_at, data_word_at, word_or_else};
 ghost use Rattle.std.specs.Prelude.{◌≡◌, ℕ};
@@ -37,11 +38,18 @@ pub(crate) fn both_operands(machine: &mut Machine, rs1: RegNo, rs2: RegNo) -> (u
     (first, second)
 }
 
+/// The bits of an immediate, in two's complement.
+pub(crate) fn immediate_bits(immediate: i32) -> u32
+    ensures bits { result ≡ two_complement 32 immediate }
+{
+    immediate.cast_unsigned()
+}
+
 /// The address of a load, a store or an indirect jump.
 pub(crate) fn sum_of(base: u32, offset: i32) -> u32
     ensures address { result ≡ address base offset }
 {
-    base.wrapping_add(offset.cast_unsigned())
+    base.wrapping_add(immediate_bits(offset))
 }
 
 /// The code word that an address lies in.
