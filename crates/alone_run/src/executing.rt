@@ -31,7 +31,9 @@ fn perform(task: &Task, machine: &mut Machine, instr: Instr) -> Deed
         Instr::Fence { word: _ } => machine.go_on(Deed::Ran),
         Instr::Ecall => call(task, machine),
         Instr::Ebreak => machine.raise(3),
-        Instr::Mret | Instr::Csr { .. } | Instr::CsrImm { .. } => machine.raise(2),
+        Instr::Mret => machine.raise(2),
+        Instr::Csr { .. } => machine.raise(2),
+        Instr::CsrImm { .. } => machine.raise(2),
     }
 }
 
