@@ -20,31 +20,328 @@ struct Row<'a> {
     output: &'a [u32],
 }
 
-/// A row without data, output and tape.
-fn plain_row(code: &[u32], end: End, count: u32) -> Row<'_> {
-    Row {
-        code,
-        data_len: 0,
-        fuel: 5,
-        out_max: 4,
-        tape: &[],
-        end,
-        count,
-        output: &[],
-    }
-}
+/// A row without code, data, output and tape, that uses up its fuel.
+const PLAIN: Row<'static> = Row {
+    code: &[],
+    data_len: 0,
+    fuel: 5,
+    out_max: 4,
+    tape: &[],
+    end: End::OutOfSteps,
+    count: 5,
+    output: &[],
+};
 
-/// A row with data.
-fn row_with_data(code: &[u32], data_len: u32, end: End, count: u32) -> Row<'_> {
-    Row {
-        data_len,
-        ..plain_row(code, end, count)
-    }
-}
+const OUT_AND_EXIT: [u32; 5] = [0x02a0_0513, 0x0010_0893, 0x73, 0x0000_0893, 0x73];
 
-fn fault(cause: u32, pc: u32) -> End {
-    End::Faulted { cause, pc }
-}
+const ROWS: [Row<'static>; 36] = [
+    // Services, and the fuel.
+    Row {
+        code: &OUT_AND_EXIT,
+        end: End::Exited(0x2a),
+        output: &[0x2a],
+        ..PLAIN
+    },
+    Row {
+        code: &OUT_AND_EXIT,
+        fuel: 4,
+        count: 4,
+        output: &[0x2a],
+        ..PLAIN
+    },
+    Row {
+        code: &OUT_AND_EXIT,
+        out_max: 0,
+        end: End::OutFull,
+        count: 3,
+        ..PLAIN
+    },
+    Row {
+        code: &[0x0020_0893, 0x73, 0x73],
+        tape: &[0xb],
+        end: End::TapeEnd,
+        count: 3,
+        ..PLAIN
+    },
+    Row {
+        code: &[0x0090_0893, 0x73],
+        end: End::BadCall(9),
+        count: 2,
+        ..PLAIN
+    },
+    Row {
+        code: &[0x6f],
+        ..PLAIN
+    },
+    // An end by the last instruction that the fuel allows.
+    Row {
+        code: &[0x0010_0073],
+        fuel: 1,
+        end: End::Faulted {
+            cause: 3,
+            pc: 0x10_0000,
+        },
+        count: 1,
+        ..PLAIN
+    },
+    // Fetches and jumps.
+    Row {
+        code: &[],
+        end: End::Faulted {
+            cause: 1,
+            pc: 0x10_0000,
+        },
+        count: 1,
+        ..PLAIN
+    },
+    Row {
+        code: &[0x67],
+        end: End::Faulted { cause: 1, pc: 0 },
+        count: 2,
+        ..PLAIN
+    },
+    Row {
+        code: &[0x0010_00b7, 0x0060_8167],
+        end: End::Faulted {
+            cause: 0,
+            pc: 0x10_0004,
+        },
+        count: 2,
+        ..PLAIN
+    },
+    Row {
+        code: &[0x0010_00b7, 0x0090_8167],
+        end: End::Faulted {
+            cause: 1,
+            pc: 0x10_0008,
+        },
+        count: 3,
+        ..PLAIN
+    },
+    // Words that are illegal in user mode, and a breakpoint.
+    Row {
+        code: &[0x3400_20f3],
+        end: End::Faulted {
+            cause: 2,
+            pc: 0x10_0000,
+        },
+        count: 1,
+        ..PLAIN
+    },
+    Row {
+        code: &[0x3020_0073],
+        end: End::Faulted {
+            cause: 2,
+            pc: 0x10_0000,
+        },
+        count: 1,
+        ..PLAIN
+    },
+    Row {
+        code: &[0x1050_0073],
+        end: End::Faulted {
+            cause: 2,
+            pc: 0x10_0000,
+        },
+        count: 1,
+        ..PLAIN
+    },
+    Row {
+        code: &[0x0010_0073],
+        end: End::Faulted {
+            cause: 3,
+            pc: 0x10_0000,
+        },
+        count: 1,
+        ..PLAIN
+    },
+    // Places that aren't the task's.
+    Row {
+        code: &[0x0000_10b7, 0x0000_a023],
+        end: End::Faulted {
+            cause: 7,
+            pc: 0x10_0004,
+        },
+        count: 2,
+        ..PLAIN
+    },
+    Row {
+        code: &[0x0000_0097, 0x0000_a023],
+        end: End::Faulted {
+            cause: 7,
+            pc: 0x10_0004,
+        },
+        count: 2,
+        ..PLAIN
+    },
+    Row {
+        code: &[0x2000_2083],
+        end: End::Faulted {
+            cause: 5,
+            pc: 0x10_0000,
+        },
+        count: 1,
+        ..PLAIN
+    },
+    Row {
+        code: &[0x7000_2083],
+        end: End::Faulted {
+            cause: 5,
+            pc: 0x10_0000,
+        },
+        count: 1,
+        ..PLAIN
+    },
+    // The borders of one data word.
+    Row {
+        code: &[0x0010_80b7, 0x0000_a023, 0x0000_a223],
+        data_len: 1,
+        end: End::Faulted {
+            cause: 7,
+            pc: 0x10_0008,
+        },
+        count: 3,
+        ..PLAIN
+    },
+    Row {
+        code: &[0x0010_80b7, 0x0020_a003],
+        data_len: 1,
+        end: End::Faulted {
+            cause: 4,
+            pc: 0x10_0004,
+        },
+        count: 2,
+        ..PLAIN
+    },
+    Row {
+        code: &[0x0010_80b7, 0x0000_91a3],
+        data_len: 1,
+        end: End::Faulted {
+            cause: 6,
+            pc: 0x10_0004,
+        },
+        count: 2,
+        ..PLAIN
+    },
+    Row {
+        code: &[0x0800_0113, 0x0010_80b7, 0x0020_81a3, 0x0030_8503, 0x73],
+        data_len: 1,
+        end: End::Exited(0xffff_ff80),
+        ..PLAIN
+    },
+    Row {
+        code: &[0xffe0_0113, 0x0010_80b7, 0x0020_9123, 0x0020_d503, 0x73],
+        data_len: 1,
+        end: End::Exited(0xfffe),
+        ..PLAIN
+    },
+    Row {
+        code: &[0xfff0_0113, 0x0010_80b7, 0x0020_8023, 0x0000_a503, 0x73],
+        data_len: 1,
+        end: End::Exited(0xff),
+        ..PLAIN
+    },
+    Row {
+        code: &[0x0010_80b7, 0x0000_8223],
+        data_len: 1,
+        end: End::Faulted {
+            cause: 7,
+            pc: 0x10_0004,
+        },
+        count: 2,
+        ..PLAIN
+    },
+    Row {
+        code: &[0x0010_80b7, 0x0000_9223],
+        data_len: 1,
+        end: End::Faulted {
+            cause: 7,
+            pc: 0x10_0004,
+        },
+        count: 2,
+        ..PLAIN
+    },
+    Row {
+        code: &[0x0010_80b7, 0xfff0_8503],
+        data_len: 1,
+        end: End::Faulted {
+            cause: 5,
+            pc: 0x10_0004,
+        },
+        count: 2,
+        ..PLAIN
+    },
+    Row {
+        code: &[0x0010_80b7, 0x0040_8503],
+        data_len: 1,
+        end: End::Faulted {
+            cause: 5,
+            pc: 0x10_0004,
+        },
+        count: 2,
+        ..PLAIN
+    },
+    Row {
+        code: &[0x0010_80b7, 0x0040_9503],
+        data_len: 1,
+        end: End::Faulted {
+            cause: 5,
+            pc: 0x10_0004,
+        },
+        count: 2,
+        ..PLAIN
+    },
+    // No data.
+    Row {
+        code: &[0x0010_80b7, 0x0000_8503],
+        end: End::Faulted {
+            cause: 5,
+            pc: 0x10_0004,
+        },
+        count: 2,
+        ..PLAIN
+    },
+    Row {
+        code: &[0x0010_80b7, 0x0000_8023],
+        end: End::Faulted {
+            cause: 7,
+            pc: 0x10_0004,
+        },
+        count: 2,
+        ..PLAIN
+    },
+    // The borders of the code.
+    Row {
+        code: &[0x0010_00b7, 0x00f0_c503, 0x73, 0xab00_0000],
+        end: End::Exited(0xab),
+        count: 3,
+        ..PLAIN
+    },
+    Row {
+        code: &[0x0010_00b7, 0x0080_9503, 0x73],
+        end: End::Exited(0x73),
+        count: 3,
+        ..PLAIN
+    },
+    Row {
+        code: &[0x0010_00b7, 0x0100_c503, 0x73, 0xab00_0000],
+        end: End::Faulted {
+            cause: 5,
+            pc: 0x10_0004,
+        },
+        count: 2,
+        ..PLAIN
+    },
+    Row {
+        code: &[0x0010_00b7, 0xfff0_8503],
+        end: End::Faulted {
+            cause: 5,
+            pc: 0x10_0004,
+        },
+        count: 2,
+        ..PLAIN
+    },
+];
 
 /// A task at the first places.
 fn task_of(
@@ -89,99 +386,9 @@ fn ends<R: Abort + AllocGlobal>(rt: &R, wanted: &Row<'_>) -> Result<(), Fail> {
     Ok(())
 }
 
-const OUT_AND_EXIT: [u32; 5] = [0x02a0_0513, 0x0010_0893, 0x73, 0x0000_0893, 0x73];
-
 #[test]
 fn ends_of_tasks(rt: HostRuntime) -> Result<(), Fail> {
-    let rows = [
-        // Services, and the fuel.
-        Row {
-            output: &[0x2a],
-            ..plain_row(&OUT_AND_EXIT, End::Exited(0x2a), 5)
-        },
-        Row {
-            fuel: 4,
-            output: &[0x2a],
-            ..plain_row(&OUT_AND_EXIT, End::OutOfSteps, 4)
-        },
-        Row {
-            out_max: 0,
-            ..plain_row(&OUT_AND_EXIT, End::OutFull, 3)
-        },
-        Row {
-            tape: &[0xb],
-            ..plain_row(&[0x0020_0893, 0x73, 0x73], End::TapeEnd, 3)
-        },
-        plain_row(&[0x0090_0893, 0x73], End::BadCall(9), 2),
-        plain_row(&[0x6f], End::OutOfSteps, 5),
-        Row {
-            fuel: 1,
-            ..plain_row(&[0x0010_0073], fault(3, 0x10_0000), 1)
-        },
-        // Fetches and jumps.
-        plain_row(&[], fault(1, 0x10_0000), 1),
-        plain_row(&[0x67], fault(1, 0), 2),
-        plain_row(&[0x0010_00b7, 0x0060_8167], fault(0, 0x10_0004), 2),
-        plain_row(&[0x0010_00b7, 0x0090_8167], fault(1, 0x10_0008), 3),
-        // Words that are illegal in user mode.
-        plain_row(&[0x3400_20f3], fault(2, 0x10_0000), 1),
-        plain_row(&[0x3020_0073], fault(2, 0x10_0000), 1),
-        plain_row(&[0x1050_0073], fault(2, 0x10_0000), 1),
-        plain_row(&[0x0010_0073], fault(3, 0x10_0000), 1),
-        // Places that aren't the task's.
-        plain_row(&[0x0000_10b7, 0x0000_a023], fault(7, 0x10_0004), 2),
-        plain_row(&[0x0000_0097, 0x0000_a023], fault(7, 0x10_0004), 2),
-        plain_row(&[0x2000_2083], fault(5, 0x10_0000), 1),
-        plain_row(&[0x7000_2083], fault(5, 0x10_0000), 1),
-        // The borders of the data.
-        row_with_data(
-            &[0x0010_80b7, 0x0000_a023, 0x0000_a223],
-            1,
-            fault(7, 0x10_0008),
-            3,
-        ),
-        row_with_data(&[0x0010_80b7, 0x0020_a003], 1, fault(4, 0x10_0004), 2),
-        row_with_data(&[0x0010_80b7, 0x0000_91a3], 1, fault(6, 0x10_0004), 2),
-        row_with_data(
-            &[0x0800_0113, 0x0010_80b7, 0x0020_81a3, 0x0030_8503, 0x73],
-            1,
-            End::Exited(0xffff_ff80),
-            5,
-        ),
-        row_with_data(
-            &[0xffe0_0113, 0x0010_80b7, 0x0020_9123, 0x0020_d503, 0x73],
-            1,
-            End::Exited(0xfffe),
-            5,
-        ),
-        row_with_data(
-            &[0xfff0_0113, 0x0010_80b7, 0x0020_8023, 0x0000_a503, 0x73],
-            1,
-            End::Exited(0xff),
-            5,
-        ),
-        row_with_data(&[0x0010_80b7, 0x0000_8223], 1, fault(7, 0x10_0004), 2),
-        row_with_data(&[0x0010_80b7, 0x0000_9223], 1, fault(7, 0x10_0004), 2),
-        row_with_data(&[0x0010_80b7, 0xfff0_8503], 1, fault(5, 0x10_0004), 2),
-        row_with_data(&[0x0010_80b7, 0x0040_8503], 1, fault(5, 0x10_0004), 2),
-        row_with_data(&[0x0010_80b7, 0x0040_9503], 1, fault(5, 0x10_0004), 2),
-        plain_row(&[0x0010_80b7, 0x0000_8503], fault(5, 0x10_0004), 2),
-        plain_row(&[0x0010_80b7, 0x0000_8023], fault(7, 0x10_0004), 2),
-        // The borders of the code.
-        plain_row(
-            &[0x0010_00b7, 0x00f0_c503, 0x73, 0xab00_0000],
-            End::Exited(0xab),
-            3,
-        ),
-        plain_row(&[0x0010_00b7, 0x0080_9503, 0x73], End::Exited(0x73), 3),
-        plain_row(
-            &[0x0010_00b7, 0x0100_c503, 0x73, 0xab00_0000],
-            fault(5, 0x10_0004),
-            2,
-        ),
-        plain_row(&[0x0010_00b7, 0xfff0_8503], fault(5, 0x10_0004), 2),
-    ];
-    for wanted in &rows {
+    for wanted in &ROWS {
         ends(&rt, wanted)?;
     }
     Ok(())
