@@ -71,10 +71,10 @@ fn jump_to(machine: &mut Machine, rd: RegNo, target: u32) -> Deed
     ensures left { (T : Task) (s : AloneState) (flow : Flow) → StandsFor T s machine.old →
         Leaves T (after_effect T Deed.Ran (jump_effect [] (result_writes rd (low_word (s.pc + 4)) flow) target) s) result machine.new }
 {
+    let link = machine.pc.wrapping_add(4);
     if target % 4 != 0 {
         return machine.raise(0);
     }
-    let link = machine.pc.wrapping_add(4);
     machine.latches.write_res(link);
     machine.latches.write_reg(rd, link);
     machine.pc = target;
