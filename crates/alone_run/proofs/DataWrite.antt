@@ -47,12 +47,12 @@ written_elsewhere : (d : DataWords) (at word a : ℕ) → d.at % 4 ≡ 0 → d.a
 written_elsewhere d at word a aligned above there =
     ⊎_elim
     (λ (even : a % 4 ≡ 0). ⊎_elim
-        (λ (below : a < d.at). rw (eq-eqb (a % 4) 0 even, lt-leb d.at a below) refl)
-        (λ (up : d.at ≤ a).
-            let apart : data_index d a ≢ data_index d at = omega arith in
-            mem_value-inside (with_data_word at word d) a even up ∙ get_or-set_other d.words (data_index d at) (data_index d a) word 0 apart
-            ∙ sym (mem_value-inside d a even up))
-        (cases_lt a d.at))
+    (λ (below : a < d.at). rw (eq-eqb (a % 4) 0 even, lt-leb d.at a below) refl)
+    (λ (up : d.at ≤ a).
+    let apart : data_index d a ≢ data_index d at = omega arith in
+    mem_value-inside (with_data_word at word d) a even up ∙ get_or-set_other d.words (data_index d at) (data_index d a) word 0 apart
+    ∙ sym (mem_value-inside d a even up))
+    (cases_lt a d.at))
     (λ (odd : a % 4 ≡ 0 → ⊥). rw (ne_eqb (a % 4) 0 odd) refl)
     (cases_eq (a % 4) 0)
 
@@ -84,5 +84,5 @@ data-written T m v at word within h =
       values = value_written m v at word aligned within h.values;
       data_at = h.data_at;
       data_len = simp length-set h.data_len;
-      aligned = h.aligned
+      aligned = h.aligned;
     }

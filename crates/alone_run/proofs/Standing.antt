@@ -17,5 +17,5 @@ stands-latches T s m l v h held = record {
   output = h.output;
   output_max = h.output_max;
   tape_at = h.tape_at;
-  end = h.end
+  end = h.end;
 }

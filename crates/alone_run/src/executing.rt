@@ -5,7 +5,8 @@ ghost use Rattle.isa_model.specs.Alone.{AloneState, after_fetch, after_instr};
 ghost use Rattle.alone_run.specs.StandsFor.{StandsFor, Leaves, Performs};
 
 use crate::instructions::{
-    add_upper_to_pc, branch, jump, jump_indirect, load, load_upper, operate, operate_immediate, store,
+    add_upper_to_pc, branch, jump, jump_indirect, load, load_upper, operate, operate_immediate,
+    store,
 };
 use crate::machine::Machine;
 use crate::operands::code_word;
@@ -25,7 +26,12 @@ fn perform(task: &Task, machine: &mut Machine, instr: Instr) -> Deed
         Instr::Jalr { rd, rs1, imm } => jump_indirect(machine, rd, rs1, imm),
         Instr::Branch { op, rs1, rs2, off } => branch(machine, op, rs1, rs2, off),
         Instr::Load { kind, rd, rs1, imm } => load(task, machine, kind, rd, rs1, imm),
-        Instr::Store { kind, rs2, rs1, imm } => store(machine, kind, rs2, rs1, imm),
+        Instr::Store {
+            kind,
+            rs2,
+            rs1,
+            imm,
+        } => store(machine, kind, rs2, rs1, imm),
         Instr::AluImm { op, rd, rs1, imm } => operate_immediate(machine, op, rd, rs1, imm),
         Instr::AluReg { op, rd, rs1, rs2 } => operate(machine, op, rd, rs1, rs2),
         Instr::Fence { word: _ } => machine.go_on(Deed::Ran),

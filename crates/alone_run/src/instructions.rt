@@ -43,7 +43,13 @@ pub(crate) fn add_upper_to_pc(machine: &mut Machine, rd: RegNo, imm20: u32) -> D
 }
 
 /// An operation on a register and an immediate.
-pub(crate) fn operate_immediate(machine: &mut Machine, op: Alu, rd: RegNo, rs1: RegNo, imm: i32) -> Deed
+pub(crate) fn operate_immediate(
+    machine: &mut Machine,
+    op: Alu,
+    rd: RegNo,
+    rs1: RegNo,
+    imm: i32,
+) -> Deed
     ensures performed { (T : Task) → Performs T (Instr.AluImm op rd rs1 imm) machine.old result machine.new }
 {
     let first = first_operand(machine, rs1);
@@ -133,7 +139,14 @@ fn give_loaded(machine: &mut Machine, kind: LoadKind, rd: RegNo, at: u32, word: 
 }
 
 /// A load from an address in a register plus an offset.
-pub(crate) fn load(task: &Task, machine: &mut Machine, kind: LoadKind, rd: RegNo, rs1: RegNo, imm: i32) -> Deed
+pub(crate) fn load(
+    task: &Task,
+    machine: &mut Machine,
+    kind: LoadKind,
+    rd: RegNo,
+    rs1: RegNo,
+    imm: i32,
+) -> Deed
     ensures performed { Performs task.now (Instr.Load kind rd rs1 imm) machine.old result machine.new }
 {
     let base = first_operand(machine, rs1);
@@ -158,13 +171,21 @@ fn put_stored(machine: &mut Machine, kind: StoreKind, at: u32, value: u32) -> De
             let merged = merge(kind, word, at, value);
             machine.latches.write_store(value);
             machine.latches.write_data(at, merged);
-            machine.go_on(Deed::Stored { word_at: at / 4 * 4 })
+            machine.go_on(Deed::Stored {
+                word_at: at / 4 * 4,
+            })
         }
     }
 }
 
 /// A store to an address in a register plus an offset.
-pub(crate) fn store(machine: &mut Machine, kind: StoreKind, rs2: RegNo, rs1: RegNo, imm: i32) -> Deed
+pub(crate) fn store(
+    machine: &mut Machine,
+    kind: StoreKind,
+    rs2: RegNo,
+    rs1: RegNo,
+    imm: i32,
+) -> Deed
     ensures performed { (T : Task) → Performs T (Instr.Store kind rs2 rs1 imm) machine.old result machine.new }
 {
     let (base, value) = both_operands(machine, rs1, rs2);

@@ -8,7 +8,7 @@ returns-in-Jal c = record {
   performed = λ s h.
       let fits : SFits w32 c.in-Jal.off = search rules in
       let done = simp to_z-of_z at (c.jump.ensures.performed c.args.task.now s h) in
-      rw c.in-Jal.is done
+      rw c.in-Jal.is done;
 }
 
 pub returns-in-Jalr : goal.returns-in-Jalr
@@ -16,7 +16,7 @@ returns-in-Jalr c = record {
   performed = λ s h.
       let fits : SFits w32 c.in-Jalr.imm = search rules in
       let done = simp to_z-of_z at (c.jump_indirect.ensures.performed c.args.task.now s h) in
-      rw c.in-Jalr.is done
+      rw c.in-Jalr.is done;
 }
 
 pub returns-in-Branch : goal.returns-in-Branch
@@ -24,7 +24,7 @@ returns-in-Branch c = record {
   performed = λ s h.
       let fits : SFits w32 c.in-Branch.off = search rules in
       let done = simp to_z-of_z at (c.branch-machine.ensures.performed c.args.task.now s h) in
-      rw c.in-Branch.is done
+      rw c.in-Branch.is done;
 }
 
 pub returns-in-Load : goal.returns-in-Load
@@ -32,7 +32,7 @@ returns-in-Load c = record {
   performed = λ s h.
       let fits : SFits w32 c.in-Load.imm = search rules in
       let done = simp to_z-of_z at (c.load.ensures.performed s h) in
-      rw c.in-Load.is done
+      rw c.in-Load.is done;
 }
 
 pub returns-in-Store : goal.returns-in-Store
@@ -40,7 +40,7 @@ returns-in-Store c = record {
   performed = λ s h.
       let fits : SFits w32 c.in-Store.imm = search rules in
       let done = simp to_z-of_z at (c.store.ensures.performed c.args.task.now s h) in
-      rw c.in-Store.is done
+      rw c.in-Store.is done;
 }
 
 pub returns-in-Ebreak : goal.returns-in-Ebreak

@@ -8,5 +8,5 @@ returns c = record {
   performed = λ T s h.
       let here = h.pc in
       let sum : (c.args.machine.now.pc + c.args.imm20 * 4096 % 4294967296) % 4294967296 ≡ (s.pc + 4096 * c.args.imm20) % 4294967296 = omega (arith, here, c.requires.range) in
-      rw (← sum) (c.give_result.ensures.left T s Constant h)
+      rw (← sum) (c.give_result.ensures.left T s Constant h);
 }

@@ -19,7 +19,7 @@ returns-then-not-taken c = record {
       let second = s.value (Reg c.args.rs2) in
       let answer : c.taken.result ≡ false = cc in
       let test : is_taken c.args.op first second ≡ c.taken.result = same_taken c.args.op _ _ first second _ c.taken.ensures.value (read.first T s h) (read.second T s h) in
-      rw (test, answer) (c.go_on.ensures.left T (record s { value = with_value PortB second (with_value PortA first s.value) }) (read.state T s h))
+      rw (test, answer) (c.go_on.ensures.left T (record s { value = with_value PortB second (with_value PortA first s.value) }) (read.state T s h));
 }
 
 pub returns : goal.returns
@@ -37,5 +37,5 @@ returns c = record {
       let target = same_target pc s.pc c.immediate_bits.result (two_complement 32 c.args.off) state.pc bits in
       let begun = to PortA first (Moved Rs1) ++ to PortB second (Moved Rs2) in
       rw (test, answer, ← target, jump-begun T Ran begun [] ((pc + c.immediate_bits.result) % 2 ^ 32) s)
-      (c.branch_to.ensures.left T (record s { value = with_value PortB second (with_value PortA first s.value) }) state)
+      (c.branch_to.ensures.left T (record s { value = with_value PortB second (with_value PortA first s.value) }) state);
 }

@@ -17,5 +17,5 @@ returns-in-Some c = record {
       let value = c.extract.ensures.value in
       let held = c.write_reg.ensures.held T (with_value Load word s.value) flow (c.write_load.ensures.held T s.value h.latches) in
       let after = values_after (to_reg c.args.rd c.extract.result flow) (with_value Load word s.value) in
-      rw (c.in-Some.is, ← value) (c.go_on.ensures.left T (record s { value = after }) (stands-latches T s c.args.machine.now c.write_reg.new.self after h held))
+      rw (c.in-Some.is, ← value) (c.go_on.ensures.left T (record s { value = after }) (stands-latches T s c.args.machine.now c.write_reg.new.self after h held));
 }

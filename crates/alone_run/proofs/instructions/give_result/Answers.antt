@@ -11,5 +11,5 @@ returns c = record {
       let value = c.args.value in
       let after = values_after (result c.args.rd value flow) s.value in
       let held = c.write_reg.ensures.held T (with_value Res value s.value) flow (c.write_res.ensures.held T s.value h.latches) in
-      c.go_on.ensures.left T (record s { value = after }) (stands-latches T s c.args.machine.now c.write_reg.new.self after h held)
+      c.go_on.ensures.left T (record s { value = after }) (stands-latches T s c.args.machine.now c.write_reg.new.self after h held);
 }

@@ -20,5 +20,5 @@ returns c = record {
       let begun = to PortA base (Moved Rs1) in
       let link = result c.args.rd (low_word (s.pc + 4)) Constant in
       rw (← here, jump-begun T Ran begun link (c.sum_of.result / 2 * 2) s)
-      (c.jump_to.ensures.left T (record s { value = with_value PortA base s.value }) Constant (c.first_operand-base.ensures.state T s h))
+      (c.jump_to.ensures.left T (record s { value = with_value PortA base s.value }) Constant (c.first_operand-base.ensures.state T s h));
 }

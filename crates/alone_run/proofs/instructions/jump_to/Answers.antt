@@ -19,6 +19,6 @@ returns c = record {
       let here = h.pc in
       rw (eq-eqb (c.args.target % 4) 0 c.if-target-ne0.false, ← here) (record {
         state = record { latches = held; pc = refl; output = h.output; output_max = h.output_max; tape_at = h.tape_at; end = h.end };
-        deed = refl
-      })
+        deed = refl;
+      });
 }

@@ -26,7 +26,7 @@ returns-then-not-load_aligned c = record {
       let state = c.first_operand-base.ensures.state T s h in
       let held = c.write_res.ensures.held T one state.latches in
       rw (← here, test) (c.raise.ensures.left T (record s { value = with_value Res at one })
-          (stands-latches T (record s { value = one }) c.first_operand-base.new.machine c.write_res.new.self (with_value Res at one) state held))
+      (stands-latches T (record s { value = one }) c.first_operand-base.new.machine c.write_res.new.self (with_value Res at one) state held));
 }
 
 pub returns : goal.returns
@@ -48,5 +48,5 @@ returns c = record {
       let word : c.loaded_word-word.result ≡ word_or_else (code_word_at T at) (data_word_at T s.value at) = c.loaded_word-word.ensures.word two held in
       rw (← here, test, ← word, load_word-begun T Ran c.args.kind c.args.rd s.pc at begun c.loaded_word-word.result s)
       (c.give_loaded.ensures.left T (record s { value = two })
-          (stands-latches T (record s { value = one }) c.first_operand-base.new.machine c.write_res.new.self two state held))
+      (stands-latches T (record s { value = one }) c.first_operand-base.new.machine c.write_res.new.self two state held));
 }

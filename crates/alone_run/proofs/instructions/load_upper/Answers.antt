@@ -7,5 +7,5 @@ pub returns : goal.returns
 returns c = record {
   performed = λ T s h.
       let shifted : c.args.imm20 * 4096 % 4294967296 ≡ 4096 * c.args.imm20 = omega (arith, c.requires.range) in
-      rw (← shifted) (c.give_result.ensures.left T s Constant h)
+      rw (← shifted) (c.give_result.ensures.left T s Constant h);
 }

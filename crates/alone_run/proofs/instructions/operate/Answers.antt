@@ -15,5 +15,5 @@ returns c = record {
       let read = c.both_operands-first.ensures in
       let value : c.alu-value.result ≡ alu_of c.args.op first second =
       same_alu c.args.op _ _ first second _ c.alu-value.ensures.value (read.first T s h) (read.second T s h) in
-      rw (← value) (c.give_result.ensures.left T (record s { value = with_value PortB second (with_value PortA first s.value) }) (Mixed (Rs1 ∷ Rs2 ∷ [])) (read.state T s h))
+      rw (← value) (c.give_result.ensures.left T (record s { value = with_value PortB second (with_value PortA first s.value) }) (Mixed (Rs1 ∷ Rs2 ∷ [])) (read.state T s h));
 }

@@ -17,5 +17,5 @@ returns c = record {
       let first = s.value (Reg c.args.rs1) in
       let value : c.alu-value.result ≡ alu_of c.args.op first (two_complement 32 c.args.imm) =
       same_alu c.args.op _ _ first (two_complement 32 c.args.imm) _ c.alu-value.ensures.value (c.first_operand-first.ensures.value T s h) bits in
-      rw (← value) (c.give_result.ensures.left T (record s { value = with_value PortA first s.value }) (Mixed (Rs1 ∷ [])) (c.first_operand-first.ensures.state T s h))
+      rw (← value) (c.give_result.ensures.left T (record s { value = with_value PortA first s.value }) (Mixed (Rs1 ∷ [])) (c.first_operand-first.ensures.state T s h));
 }

@@ -10,7 +10,7 @@ pub returns-in-None : goal.returns-in-None
 returns-in-None c = record {
   left = λ T s h.
       let none = c.in-None.ensures.held T s.value h.latches in
-      rw (← none) (c.raise.ensures.left T s h)
+      rw (← none) (c.raise.ensures.left T s h);
 }
 
 pub returns-in-Some : goal.returns-in-Some
@@ -20,5 +20,5 @@ returns-in-Some c = record {
       let merged = c.merge-merged.ensures.value in
       let held = c.write_data.ensures.held T (with_value Store c.args.value s.value) (c.write_store.ensures.held T s.value h.latches) in
       let after = with_value (Mem (word_address c.args.at)) c.merge-merged.result (with_value Store c.args.value s.value) in
-      rw (← some, ← merged) (c.go_on.ensures.left T (record s { value = after }) (stands-latches T s c.args.machine.now c.write_data.new.self after h held))
+      rw (← some, ← merged) (c.go_on.ensures.left T (record s { value = after }) (stands-latches T s c.args.machine.now c.write_data.new.self after h held));
 }

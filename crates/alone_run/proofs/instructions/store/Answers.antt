@@ -28,7 +28,7 @@ returns-then-not-store_aligned c = record {
       let state = read.state T s h in
       let held = c.write_res.ensures.held T two state.latches in
       rw (← here, test) (c.raise.ensures.left T (record s { value = with_value Res at two })
-          (stands-latches T (record s { value = two }) c.both_operands-base.new.machine c.write_res.new.self (with_value Res at two) state held))
+      (stands-latches T (record s { value = two }) c.both_operands-base.new.machine c.write_res.new.self (with_value Res at two) state held));
 }
 
 pub returns : goal.returns
@@ -50,6 +50,6 @@ returns c = record {
       let held = c.write_res.ensures.held T two state.latches in
       let begun = to PortA base (Moved Rs1) ++ to PortB stored (Moved Rs2) ++ to Res at (Mixed (Rs1 ∷ [])) in
       let put = rw second at (c.put_stored.ensures.left T (record s { value = three })
-          (stands-latches T (record s { value = two }) c.both_operands-base.new.machine c.write_res.new.self three state held)) in
-      rw (← here, test, store_word-begun T (Stored (word_address at)) c.args.kind stored s.pc at begun (data_word_at T s.value at) s) put
+      (stands-latches T (record s { value = two }) c.both_operands-base.new.machine c.write_res.new.self three state held)) in
+      rw (← here, test, store_word-begun T (Stored (word_address at)) c.args.kind stored s.pc at begun (data_word_at T s.value at) s) put;
 }

@@ -17,5 +17,5 @@ returns-clause-state c T s h =
       output = h.output;
       output_max = h.output_max;
       tape_at = h.tape_at;
-      end = h.end
+      end = h.end;
     }

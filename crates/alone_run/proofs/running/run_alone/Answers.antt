@@ -21,13 +21,14 @@ ends T U n e same fuel some running end count output =
     }
 
 pub returns : goal.returns
-returns c = record { end =
-    let T = c.args.task.now in
-    let none = c.in_default.ensures.none in
-    let a = c.step.new.self in
-    let running : (k : ℕ) → k < a.count → (alone_at T k).end ≡ None = rw none.1 c.loop-control.invariant.running in
-    let some : IsSome (alone_at a.task a.count).end = rw none.1 none.0 in
-    let within : a.count ≤ a.task.fuel = omega (arith, c.count.ensures.within, c.count.ensures.count) in
-    ends T a.task a.count _ (ap (λ m. m.task) none.1 ∙ c.loop-control.invariant.task) within some running
-    c.in-Some-ended.ensures.end c.count.ensures.count (c.new-output.ensures.words ∙ c.in_ok-from_slice.ensures.items ∙ c.output.ensures.output)
+returns c = record {
+  end =
+      let T = c.args.task.now in
+      let none = c.in_default.ensures.none in
+      let a = c.step.new.self in
+      let running : (k : ℕ) → k < a.count → (alone_at T k).end ≡ None = rw none.1 c.loop-control.invariant.running in
+      let some : IsSome (alone_at a.task a.count).end = rw none.1 none.0 in
+      let within : a.count ≤ a.task.fuel = omega (arith, c.count.ensures.within, c.count.ensures.count) in
+      ends T a.task a.count _ (ap (λ m. m.task) none.1 ∙ c.loop-control.invariant.task) within some running
+      c.in-Some-ended.ensures.end c.count.ensures.count (c.new-output.ensures.words ∙ c.in_ok-from_slice.ensures.items ∙ c.output.ensures.output);
 }

@@ -23,8 +23,8 @@ returns-then-append c = record {
         output = ap (λ o. o.words) after ∙ ap (λ ws. ws ++ c.args.word ∷ []) h.output;
         output_max = ap (λ o. o.max) after ∙ h.output_max;
         tape_at = h.tape_at;
-        end = h.end
-      }))
+        end = h.end;
+      }));
 }
 
 pub returns-else-append : goal.returns-else-append
@@ -40,6 +40,6 @@ returns-else-append c = record {
         output = ap (λ o. o.words) after ∙ h.output;
         output_max = ap (λ o. o.max) after ∙ h.output_max;
         tape_at = h.tape_at;
-        end = h.end
-      }))
+        end = h.end;
+      }));
 }

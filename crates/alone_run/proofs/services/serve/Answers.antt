@@ -22,5 +22,5 @@ returns-in_default c = record {
       let n1 : c.args.number ≢ 1 = omega arith in
       let n2 : c.args.number ≢ 2 = omega arith in
       let n3 : c.args.number ≢ 3 = omega arith in
-      rw (no_service c.args.task.now c.args.number c.args.argument s n0 n1 n2 n3) (c.finish-in_default.ensures.left c.args.task.now s h)
+      rw (no_service c.args.task.now c.args.number c.args.argument s n0 n1 n2 n3) (c.finish-in_default.ensures.left c.args.task.now s h);
 }

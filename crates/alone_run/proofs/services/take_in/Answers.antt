@@ -15,8 +15,8 @@ returns-in-Some c = record {
         output = h.output;
         output_max = h.output_max;
         tape_at = ap (λ k. k + 1) h.tape_at;
-        end = h.end
-      }))
+        end = h.end;
+      }));
 }
 
 pub returns-in-None : goal.returns-in-None
@@ -24,5 +24,5 @@ returns-in-None c = record {
   left = λ s h.
       let T = c.args.task.now in
       let here : slice_get T.tape s.tape_at ≡ None = ap (λ k. slice_get T.tape k) (sym h.tape_at) ∙ sym c.in-None.ensures.word in
-      rw here (c.finish.ensures.left T s h)
+      rw here (c.finish.ensures.left T s h);
 }

@@ -15,7 +15,7 @@ invariant_of-result c =
         output = ap (λ o. o.words) room;
         output_max = ap (λ o. o.max) room;
         tape_at = refl;
-        end = refl
+        end = refl;
       };
       fuel = omega arith;
       running = λ _. omega arith;
