@@ -1,4 +1,4 @@
--- Words of known instructions, as the GNU assembler makes them, and words that are no instruction.
+-- Words of known instructions, as LLVM's assembler makes them, and words that are no instruction.
 use Rattle.std.proofs.Common.{◌≡◌, None, Some, refl, pos, negsuc}
 use Rattle.isa_model.specs.declared.instr.Cmp.TheVariants.{Beq, Bgeu}
 use Rattle.isa_model.specs.declared.instr.LoadKind.TheVariants as loads

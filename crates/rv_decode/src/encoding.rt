@@ -1,8 +1,8 @@
 //! From an instruction to its word.
 
-ghost use Rattle.std.specs.Prelude.{◌≡◌, ◌+◌, ◌*◌, ◌<◌, ◌^◌};
+ghost use Rattle.std.specs.Prelude.{◌≡◌, ◌<◌, ◌^◌};
 ghost use Rattle.isa_model.specs.Bits.{two_complement, IsInBits};
-ghost use Rattle.isa_model.specs.Encoding.{IsInstr, IsImmediate, word_of, i_format, funct3_of_cmp, funct3_of_load, funct3_of_store, funct3_of_alu, funct7_of_alu, funct3_of_csr};
+ghost use Rattle.isa_model.specs.Encoding.{IsInstr, word_of, funct3_of_cmp, funct3_of_load, funct3_of_store, funct3_of_alu, funct7_of_alu, funct3_of_csr};
 ghost use Rattle.isa_model.specs.InstrTable.{instr_of};
 
 use crate::formats::{b_format, i_format, j_format, r_format, s_format, u_format};

@@ -2,7 +2,6 @@
 //! Variants").
 
 ghost use Rattle.std.specs.Prelude.{◌≡◌, ◌+◌, ◌*◌, ◌<◌, ◌^◌};
-ghost use Rattle.isa_model.specs.Bits.{two_complement, IsInBits};
 ghost use Rattle.isa_model.specs.Encoding.{r_format, i_format, s_format, b_format, u_format, j_format};
 
 use crate::fields::bits;

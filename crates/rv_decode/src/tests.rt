@@ -1,4 +1,4 @@
-//! Words that the GNU assembler makes, and words that are no instruction.
+//! Words that LLVM's assembler makes, and words that are no instruction.
 
 ghost use Rattle.std.specs.Prelude.{◌<◌};
 
