@@ -1,0 +1,4 @@
+pub mod DataWrite
+pub mod Standing
+pub mod Effects
+pub mod Numbers

@@ -1,0 +1,7 @@
+pub mod DataWords
+pub mod OutputWords
+pub mod LatchValues
+pub mod StandsFor
+pub mod Moment
+pub mod IsAt
+pub mod Whole

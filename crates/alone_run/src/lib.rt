@@ -1,0 +1,16 @@
+//! A task on a hart of its own, an instruction at a time and to its end: the run to which every other run of the task is
+//! compared.
+#![tactic(auto)]
+
+mod data;
+mod executing;
+mod instructions;
+mod latches;
+mod machine;
+mod operands;
+mod output;
+pub mod running;
+mod services;
+
+pub use isa_model::{Control, Deed, End, EndKind, Latch, Task, Words};
+pub use running::{Alone, Ended, run_alone};
