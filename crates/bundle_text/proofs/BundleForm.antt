@@ -130,7 +130,7 @@ decision_form bytes bundle h =
     let c = d.others_are in
     let block = d.head ∷ c.middle ++ codes "endtask" ∷ [] in
     let order : lines bytes ≡ (d.header ∷ d.slots_line ∷ block) ++ [] ∷ [] =
-        d.order ∙ ap (λ l. d.header ∷ d.slots_line ∷ d.head ∷ l) (c.order ∙ sym (append_assoc c.middle (codes "endtask" ∷ []) ([] ∷ []))) in
+    d.order ∙ ap (λ l. d.header ∷ d.slots_line ∷ d.head ∷ l) (c.order ∙ sym (append_assoc c.middle (codes "endtask" ∷ []) ([] ∷ []))) in
     let limit : length (concat c.parts) ≤ 4096 = subst (λ (l : List ℕ). length l ≤ 4096) c.code_is d.limit in
     let block_is : IsTaskBlock block (record { fuel = d.limits.0; out_max = d.limits.1; data_len = 0; tape = []; code = Words d.code }) = record {
       head = d.head;
@@ -181,14 +181,14 @@ form_decision bytes bundle h =
     let k = h.block_is in
     let ls = h.header ∷ h.slots_line ∷ h.block in
     let whole : lines (text_of ls) ≡ ls ++ [] ∷ [] =
-        lines_are ls (header_lacks_end h.header h.header_is, (slots_lacks_end h.slots_line bundle.slots h.slots, block_lacks_end h.block h.task k)) in
+    lines_are ls (header_lacks_end h.header h.header_is, (slots_lacks_end h.slots_line bundle.slots h.slots, block_lacks_end h.block h.task k)) in
     let order : h.block ++ [] ∷ [] ≡ k.head ∷ (k.middle ++ codes "endtask" ∷ [] ∷ []) =
-        ap (λ l. l ++ [] ∷ []) k.order ∙ ap (λ l. k.head ∷ l) (append_assoc k.middle (codes "endtask" ∷ []) ([] ∷ [])) in
+    ap (λ l. l ++ [] ∷ []) k.order ∙ ap (λ l. k.head ∷ l) (append_assoc k.middle (codes "endtask" ∷ []) ([] ∷ [])) in
     let task = task_from h.task (concat k.parts) k.code k.data_len k.tape in
     ap (λ b. bundle_of (lines b)) h.text ∙ ap bundle_of whole ∙ ap (λ l. bundle_of (h.header ∷ h.slots_line ∷ l)) order
     ∙ bundle_of-lines h.header h.slots_line k.head (k.middle ++ codes "endtask" ∷ [] ∷ []) bundle.slots h.task.fuel h.task.out_max (concat k.parts)
-        (version_found h.header h.header_is) (slots_found h.slots_line bundle.slots h.slots)
-        (limits_found k.head h.task.fuel h.task.out_max k.head_is) (code_found k.middle k.parts k.middle_is) k.limit
+    (version_found h.header h.header_is) (slots_found h.slots_line bundle.slots h.slots)
+    (limits_found k.head h.task.fuel h.task.out_max k.head_is) (code_found k.middle k.parts k.middle_is) k.limit
     ∙ ap (λ t. Some (record { slots = bundle.slots; tasks = t ∷ [] })) task
     ∙ ap (λ l. Some (record bundle { tasks = l })) (sym h.tasks)
 

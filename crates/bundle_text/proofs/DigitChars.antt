@@ -41,9 +41,6 @@ char-of_decimal b h =
     eqb-true _ b (if_true (is_decimal_digit b) _ h
     (agree_below_at (λ k. not (is_decimal_digit k) || eqb (digit_char (k - 48)) k) (λ _. true) 58 b refl (omega arith)))
 
-
-
-
 letter_bounds : (b : ℕ) → (leb 97 b && leb b 102) ≡ true → (97 ≤ b) × (b ≤ 102)
 letter_bounds b h = let p = and_parts (leb 97 b) (leb b 102) h in (leb-true 97 b p.0, leb-true b 102 p.1)
 
@@ -60,6 +57,6 @@ hex_cases false letter m n d h = inr (cond_some letter n d h)
 pub char-of_hex : (b d : ℕ) → hex_digit_of b ≡ Some d → (d < 16) × (b ≡ digit_char d)
 char-of_hex b d h =
     elim (hex_cases (is_decimal_digit b) (leb 97 b && leb b 102) (b - 48) (b - 87) d h) as (λ _. (d < 16) × (b ≡ digit_char d)) [
-      inl p ↦ let q = digit_bounds b p.0 in let e : b - 48 ≡ d = p.1 in (omega arith, sym (char-of_decimal b p.0) ∙ ap digit_char e)
-    | inr p ↦ let q = letter_bounds b p.0 in let e : b - 87 ≡ d = p.1 in (omega arith, sym (char-of_letter b p.0) ∙ ap digit_char e)
+      | inl p ↦ let q = digit_bounds b p.0 in let e : b - 48 ≡ d = p.1 in (omega arith, sym (char-of_decimal b p.0) ∙ ap digit_char e)
+      | inr p ↦ let q = letter_bounds b p.0 in let e : b - 87 ≡ d = p.1 in (omega arith, sym (char-of_letter b p.0) ∙ ap digit_char e)
     ]

@@ -8,3 +8,4 @@ pub mod Numerals
 pub mod Joins
 pub mod LineForms
 pub mod BundleForm
+pub mod Examples

@@ -175,9 +175,22 @@ task_tokens fuel out data_number =
     codes "task" ∷ codes "fuel" ∷ fuel ∷ codes "out" ∷ out ∷ codes "data" ∷ data_number ∷ []
 
 task_plain : (line : List ℕ) (fuel out : ℕ) (h : IsTaskLine line fuel out) → AllByRecursion IsPlain (task_tokens h.fuel_number h.out_number h.data_number)
-task_plain line fuel out h =
-    (refl, (refl, (plain_decimal h.fuel_number fuel h.fuel_is, (refl, (plain_decimal h.out_number out h.out_is,
-    (refl, (plain_decimal h.data_number 0 h.data_is, tt)))))))
+task_plain line fuel out h = (
+  refl,
+  (
+    refl,
+    (
+      plain_decimal h.fuel_number fuel h.fuel_is,
+      (
+        refl,
+        (
+          plain_decimal h.out_number out h.out_is,
+          (refl, (plain_decimal h.data_number 0 h.data_is, tt)),
+        ),
+      ),
+    ),
+  ),
+)
 
 limits_of-tokens : (fuel_text out_text data_text : List ℕ) (fuel out : ℕ) → number_within 1 100000 (decimal_of fuel_text) ≡ Some fuel
     → number_within 0 4096 (decimal_of out_text) ≡ Some out → number_within 0 0 (decimal_of data_text) ≡ Some 0
@@ -189,9 +202,9 @@ pub limits_found : (line : List ℕ) (fuel out : ℕ) → IsTaskLine line fuel o
 limits_found line fuel out h =
     ap limits_of {y = task_tokens h.fuel_number h.out_number h.data_number} (tokens_are (task_tokens h.fuel_number h.out_number h.data_number) line (task_plain line fuel out h) h.tokens)
     ∙ limits_of-tokens h.fuel_number h.out_number h.data_number fuel out
-        (number_found 1 100000 h.fuel_number fuel h.fuel_is h.fuel_low h.fuel_high)
-        (number_found 0 4096 h.out_number out h.out_is (omega arith) h.out_high)
-        (number_found 0 0 h.data_number 0 h.data_is (omega arith) (omega arith))
+    (number_found 1 100000 h.fuel_number fuel h.fuel_is h.fuel_low h.fuel_high)
+    (number_found 0 4096 h.out_number out h.out_is (omega arith) h.out_high)
+    (number_found 0 0 h.data_number 0 h.data_is (omega arith) (omega arith))
 
 pub task_lacks_end : (line : List ℕ) (fuel out : ℕ) → IsTaskLine line fuel out → LacksEnd line
 task_lacks_end line fuel out h = line_lacks_end (task_tokens h.fuel_number h.out_number h.data_number) line (task_plain line fuel out h) h.tokens

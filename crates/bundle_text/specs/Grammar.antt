@@ -96,9 +96,9 @@ abbrev pub bundle_with : ℕ → ℕ × ℕ → List ℕ → Option Bundle
 bundle_with slots limits code =
     if nat_le (length code) 4096
     then Some (record {
-        slots = slots;
-        tasks = record { fuel = limits.0; out_max = limits.1; data_len = 0; tape = []; code = Words code } ∷ []
-      })
+      slots = slots;
+      tasks = record { fuel = limits.0; out_max = limits.1; data_len = 0; tape = []; code = Words code } ∷ [];
+    })
     else None
 
 -- the slots, and the fuel and the greatest output, of the first three lines

@@ -10,17 +10,14 @@ ghost use Rattle.bundle_text.specs.declared.bundle.Bundle.{Bundle};
 /// The function that decides the form gives exactly the bundles of the form by productions.
 pub fn form_is_decided()
     ensures decided { (bytes : List ℕ) (bundle : Bundle) → (bundle_of (lines bytes) ≡ Some bundle) ↔ Reads bytes bundle }
-{
-}
+{}
 
 /// Some bytes read as at most one bundle.
 pub fn form_is_unambiguous()
     ensures one { (bytes : List ℕ) (bundle other : Bundle) → Reads bytes bundle → Reads bytes other → bundle ≡ other }
-{
-}
+{}
 
 /// What bytes read as is in range.
 pub fn form_is_in_range()
     ensures range { (bytes : List ℕ) (bundle : Bundle) → Reads bytes bundle → IsInRange bundle }
-{
-}
+{}

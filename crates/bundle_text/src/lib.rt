@@ -13,3 +13,5 @@ mod reading;
 pub use bundle::{Bundle, BundleFault, BundleKind, Code, TaskText, Tasks};
 pub use reading::read_bundle;
 
+#[cfg(test)]
+mod tests;

@@ -5,13 +5,13 @@ ghost use Rattle.std.specs.List.{slice_split};
 ghost use Rattle.bundle_text.specs.Pieces.{is_line_end, is_blank, pieces_after};
 
 /// The byte that ends a line, LF.
-pub const LINE_END: u8 = b'\n';
+pub(crate) const LINE_END: u8 = b'\n';
 
 /// A blank.
-pub const SPACE: u8 = b' ';
+pub(crate) const SPACE: u8 = b' ';
 
 /// The other blank.
-pub const TAB: u8 = b'\t';
+pub(crate) const TAB: u8 = b'\t';
 
 /// The line at the front, and what follows its end if it has one.
 pub(crate) fn cut_line(bytes: &[u8]) -> (&[u8], Option<&[u8]>)

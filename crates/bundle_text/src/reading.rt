@@ -18,6 +18,9 @@ use std::alloc::{AllocError, Global};
 /// How many words a task's code has at most.
 const CODE_MAX: usize = 4096;
 
+/// The line of a refusal that is of no one line.
+const NO_LINE: u32 = 0;
+
 /// What follows a fixed word and its blank at the front of a line.
 fn rest_after_word<'a>(line: &'a [u8], word: &[u8]) -> Option<&'a [u8]>
     ensures rest { option_map (λ rest. tokens rest.now) result ≡ after_word word.now (tokens line.now) }
@@ -81,7 +84,8 @@ fn is_instr_of_code(instr: Instr) -> bool
 {
     match instr {
         Instr::Lui { .. } | Instr::Ecall => true,
-        Instr::AluImm { op: Alu::Add, .. } | Instr::AluReg { op: Alu::Add, .. } => true,
+        Instr::AluImm { op: Alu::Add, .. } => true,
+        Instr::AluReg { op: Alu::Add, .. } => true,
         _ => false,
     }
 }
@@ -91,10 +95,7 @@ fn is_instr_of_code(instr: Instr) -> bool
 fn is_of_code(word: u32) -> bool
     ensures value { result ≡ is_code_word word }
 {
-    match decode(word) {
-        Some(instr) => is_instr_of_code(instr),
-        None => false,
-    }
+    decode(word).is_some_and(is_instr_of_code)
 }
 
 /// The word of a token, if it may stand in code.
@@ -235,11 +236,11 @@ pub fn read_bundle(alloc: Global, bytes: &[u8]) -> Result<Bundle, BundleFault>
     match bundle(alloc, bytes) {
         Ok(Some(bundle)) => Ok(bundle),
         Ok(None) => Err(BundleFault {
-            line: 0,
+            line: NO_LINE,
             kind: BundleKind::NotYet,
         }),
         Err(_) => Err(BundleFault {
-            line: 0,
+            line: NO_LINE,
             kind: BundleKind::Memory,
         }),
     }

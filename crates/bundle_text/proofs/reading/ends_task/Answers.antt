@@ -6,6 +6,6 @@ use Rattle.bundle_text.specs.Grammar.{after_word, number_then, last_number, is_e
 use Rattle.bundle_text.proofs.reading.ends_task.Goals as goal
 
 pub returns-else-is_none : goal.returns-else-is_none
-returns-else-is_none c = 
+returns-else-is_none c =
     let cut = c.cut_token in
     record { value = rw (cut.ensures.pieces) (c.if-is_none.false ∙ sym (end_cut cut.result.0.now cut.result.1 (grind arith))) }

@@ -9,5 +9,7 @@ pub returns : goal.returns
 returns c =
     let cut = c.cut_token in
     let rest = tokens c.in_ok-rest.rest.now in
-    record { value = rw (cut.ensures.pieces, c.in_ok-rest.was) (ap (λ o. option_map (λ n. (n, rest)) o) c.in_ok-decimal.ensures.value
-    ∙ sym (number_more c.args.low c.args.high cut.result.0.now rest (split_more is_blank c.in_ok-rest.rest.now))) }
+    record {
+      value = rw (cut.ensures.pieces, c.in_ok-rest.was) (ap (λ o. option_map (λ n. (n, rest)) o) c.in_ok-decimal.ensures.value
+          ∙ sym (number_more c.args.low c.args.high cut.result.0.now rest (split_more is_blank c.in_ok-rest.rest.now)));
+    }
