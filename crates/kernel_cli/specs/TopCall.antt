@@ -8,11 +8,15 @@ use Rattle.kernel_cli.specs.declared.status.Status.TheVariants.{Fine, BadWords, 
 use Rattle.kernel_cli.specs.Answer.{answer_of, bad_words, input_limit}
 use Rattle.kernel_cli.specs.Statuses.{IsRefusal}
 
--- The answer to the command, over the bytes that were left, has this status, and known bytes grow by its text. It says
--- nothing where the source doesn't tell its bytes.
+-- The bytes are those that were left, where the source tells them.
+abbrev pub WereLeft : List ℕ → Option (List ℕ) → Type 0
+WereLeft bytes left = IfSome left (λ told. bytes ≡ told)
+
+-- The answer to the command, over the bytes that were left, has this status, and known bytes grow by its text. Where the
+-- source doesn't tell its bytes, it is the answer over some bytes.
 abbrev pub Answers : Option Command → Status → Option (List ℕ) → Option (List ℕ) → Option (List ℕ) → Type 0
 Answers command status left held held' =
-    IfSome left (λ bytes. ((answer_of command bytes).status ≡ status) × Appends held held' (answer_of command bytes).text)
+    (bytes : List ℕ) × WereLeft bytes left × ((answer_of command bytes).status ≡ status) × Appends held held' (answer_of command bytes).text
 
 -- Known bytes grow by a front of the text that isn't all of it.
 abbrev pub AppendsPart : Option (List ℕ) → Option (List ℕ) → List ℕ → Type 0
@@ -27,7 +31,7 @@ WritesOrFails asked held held' faults faults' text status =
 abbrev pub BeginsToAnswer : Option Command → Option (List ℕ) → Option (List ℕ) → Option (List ℕ) → Type 0
 BeginsToAnswer None left held held' = AppendsPart held held' bad_words.text
 BeginsToAnswer (Some command) left held held' =
-    IfSome left (λ bytes. AppendsPart held held' (answer_of (Some command) bytes).text)
+    (bytes : List ℕ) × WereLeft bytes left × AppendsPart held held' (answer_of (Some command) bytes).text
 
 -- More bytes than the limit were left, and one more than the limit was taken.
 abbrev pub IsTooLarge : Option (List ℕ) → Option (List ℕ) → Type 0
