@@ -10,7 +10,9 @@ use std::alloc::{AllocError, Global};
 use std::{env, io};
 
 const TASKS: u32 = 32;
+
 const DEFAULT_FUEL: u32 = 1_000;
+
 const GREATEST_FUEL: u32 = 100_000;
 
 /// A task that counts, mixes, stores and loads for ever.
@@ -21,7 +23,16 @@ fn looping_task(alloc: Global, number: u32, fuel: u32) -> Result<Task, AllocErro
     ensures valid { IfOk result IsValidTask }
 {
     // auipc x5,8; addi x1,x1,1; xor x2,x2,x1; slli x3,x2,5; sw x3,0(x5); lw x4,0(x5); add x2,x2,x4; jal x0,.-24
-    let code = vec![in alloc; 0x0000_8297, 0x0010_8093, 0x0011_4133, 0x0051_1193, 0x0032_a023, 0x0002_a203, 0x0041_0133, 0xfe9f_f06f]?;
+    let code = vec![in alloc;
+        0x0000_8297,
+        0x0010_8093,
+        0x0011_4133,
+        0x0051_1193,
+        0x0032_a023,
+        0x0002_a203,
+        0x0041_0133,
+        0xfe9f_f06f,
+    ]?;
     Ok(Task {
         code_at: 0x10_0000 + 0x1_0000 * number,
         data_at: 0x10_8000 + 0x1_0000 * number,

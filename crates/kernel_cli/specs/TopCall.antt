@@ -48,16 +48,13 @@ pub record IsAnswered {S K : Type 0} (left : S → Option (List ℕ)) (read_faul
   -- words that are no command are refused before the source is touched
   pub refused : command ≡ None → (src' ≡ src) × IsRefusal status
   pub bad_words : status ≡ BadWords → (command ≡ None) × Appends (held sink) (held sink') bad_words.text
-
   -- the answer is written, and the source was read to its end, but for input that is too large
   pub fine : status ≡ Fine → IsAtEnd (left src') × Answers command Fine (left src) (held sink) (held sink')
   pub bad_input : status ≡ BadInput → WasRead (left src) (left src') × Answers command BadInput (left src) (held sink) (held sink')
-
   -- a fault comes only where the source or the sink counted one; the whole text is made before any of it is written
   pub read_fault : status ≡ ReadFault → Rose (read_faults src) (read_faults src') × (command ≢ None) × (sink' ≡ sink)
   pub write_fault : status ≡ WriteFault → Rose (write_faults sink) (write_faults sink')
       × BeginsToAnswer command (left src) (held sink) (held sink') × (command ≢ None → WasRead (left src) (left src'))
   pub memory : status ≡ Memory → sink' ≡ sink
-
   -- whatever the status, at most one byte past the limit is taken
   pub taken : ConsumesAtMost (left src) (left src') (input_limit + 1)

@@ -6,10 +6,10 @@ ghost use Rattle.bundle_text.specs.Grammar.{bundle_of};
 ghost use Rattle.kernel_cli.specs.Answer.{bundle_answer, input_limit};
 ghost use Rattle.kernel_cli.specs.Outcome.{status_of, IsAnswer};
 
+use crate::status::Status;
 use crate::tasks::ends;
 use bundle_text::{BundleKind, read_bundle};
 use report_text::alone_report;
-use crate::status::Status;
 use std::alloc::{AllocError, Global};
 
 /// What came of the input.

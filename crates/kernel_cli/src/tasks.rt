@@ -12,7 +12,9 @@ use std::alloc::{AllocError, Global};
 
 /// Where the code and the data of task 0 lie, and how many bytes further those of each next task.
 const CODE_PLACE: u32 = 0x10_0000;
+
 const DATA_PLACE: u32 = 0x10_8000;
+
 const PLACE_STEP: u32 = 0x1_0000;
 
 /// A task at its places.
