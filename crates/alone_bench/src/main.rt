@@ -45,7 +45,10 @@ fn looping_task(alloc: Global, number: u32, fuel: u32) -> Result<Task, AllocErro
 }
 
 /// The fuel that the program's argument names.
-fn fuel_of(argument: Option<String>) -> u32 {
+fn fuel_of(argument: Option<String>) -> u32
+    ensures low { 1 ≤ result }
+    ensures high { result ≤ 100000 }
+{
     let number = match argument {
         Some(text) => text.as_str().parse::<u32>().unwrap_or(DEFAULT_FUEL),
         None => DEFAULT_FUEL,
