@@ -1,0 +1,3 @@
+pub mod Mixtures
+mod TryWhy
+pub mod WhyTells

@@ -1,5 +1,5 @@
 -- The storage of a hart with its slot and its task's data, over any content: cells, values or abstract cells.
-use Rattle.std.specs.Prelude.{◌≡◌, ℕ, ◌+◌, ◌-◌, ◌*◌, ◌/◌, ◌%◌, ◌<◌, Bool, ◌&&◌, List, length, get_or, set, Option, Some, None, nat_le, nat_lt, ◌==◌, if◌then◌else◌}
+use Rattle.std.specs.Prelude.{ℕ, ◌+◌, ◌-◌, ◌*◌, ◌/◌, ◌%◌, ◌&&◌, List, get_or, set, Option, Some, None, nat_le, nat_lt, ◌==◌, if◌then◌else◌}
 use Rattle.isa_model.specs.declared.latch.Latch.{Latch}
 use Rattle.isa_model.specs.declared.latch.Latch.TheVariants as latches
 use Rattle.hart_model.specs.declared.place.Place.{Place}
@@ -70,9 +70,9 @@ latch_of b Zero = latches.Mem zero_address
 latch_of b (SlotWord i) = latches.Mem (b.slot_at + 4 * i)
 latch_of b (DataWord i) = latches.Mem (b.data_at + 4 * i)
 
--- the index of an address among words that stand from a base on
+-- the index of an address among `len` words that stand from a base on; None where it is the address of none of them
 abbrev pub index_in : ℕ → ℕ → ℕ → Option ℕ
-index_in base len at = if nat_le base at && nat_lt at (base + 4 * len) && (at % 4 == 0) then Some ((at - base) / 4) else None
+index_in base len at = if nat_le base at && nat_lt at (base + 4 * len) && ((at - base) % 4 == 0) then Some ((at - base) / 4) else None
 
 abbrev pub data_place_of : Option ℕ → Option Place
 data_place_of None = None

@@ -1,6 +1,7 @@
 pub mod Cells
 pub mod Taint
 pub mod Why
+pub mod WhyLaws
 pub mod Probes
 pub mod Pmp
 pub mod Csrs

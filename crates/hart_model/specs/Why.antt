@@ -1,21 +1,23 @@
 -- Why a write is explained (this project's own), by the mode, the latch and the two tags alone.
-use Rattle.std.specs.Prelude.{ℕ, suc, ◌+◌, Bool, true, false, ◌&&◌, nat_le, ◌==◌}
+use Rattle.std.specs.Prelude.{ℕ, suc, Bool, true, false, ◌&&◌, nat_le, ◌==◌}
 use Rattle.isa_model.specs.declared.latch.Latch.{Latch}
 use Rattle.isa_model.specs.LatchOrder.{same_latch}
 use Rattle.hart_model.specs.declared.tag.Tag.{Tag}
-use Rattle.hart_model.specs.declared.tag.Tag.TheVariants.{Public, Of, Many}
+use Rattle.hart_model.specs.declared.tag.Tag.TheVariants.{Public, Of}
 use Rattle.hart_model.specs.declared.tag.Mode.{Mode}
-use Rattle.hart_model.specs.declared.tag.Mode.TheVariants.{User, Machine}
+use Rattle.hart_model.specs.declared.tag.Mode.TheVariants.{User}
 use Rattle.hart_model.specs.declared.probe.Why.{Why}
 use Rattle.hart_model.specs.declared.probe.Why.TheVariants as whys
 use Rattle.hart_model.specs.declared.probe.Side.TheVariants.{Was, Now}
 
--- instruction n of a task, where both tags are of this task and this latch, the new one by this instruction and the old one by an
--- earlier one
+-- instruction n of a task where the test holds
 abbrev pub step_or_unexplained : Bool → ℕ → ℕ → Latch → Why
 step_or_unexplained true task n l = whys.Step task n l
 step_or_unexplained false task n l = whys.Unexplained
 
+-- The why of a write of latch l, by the mode and the tags before and after. Both public: Public. One public and one of a task: the
+-- value of that tag, with the side where it stands. In user mode, where both tags are of one task and of l itself, the new one after
+-- instruction n and the old one after no more than n instructions: instruction n of that task. Else it is unexplained.
 abbrev pub why_of : Mode → Latch → Tag → Tag → Why
 why_of mode l Public Public = whys.Public
 why_of mode l (Of task n k) Public = whys.Value task n k Was

@@ -6,6 +6,7 @@ pub mod access;
 pub mod place;
 pub mod probe;
 pub mod tag;
+pub mod why_laws;
 
 pub use access::Access;
 pub use place::Place;
