@@ -1,0 +1,3 @@
+pub mod PmpLaws
+mod TryCsrs
+mod TryPmp

@@ -1,11 +1,11 @@
 -- The control and status registers of this profile (privileged manual, "Machine-Level CSRs"): exactly these exist.
-use Rattle.std.specs.Prelude.{◌≡◌, ℕ, ◌+◌, ◌-◌, ◌*◌, ◌/◌, ◌%◌, ◌^◌, Bool, true, false, ◌&&◌, ◌||◌, List, [], ◌∷◌, set, Option, Some, None, nat_le, ◌==◌, if◌then◌else◌}
+use Rattle.std.specs.Prelude.{ℕ, ◌+◌, ◌-◌, ◌*◌, ◌^◌, Bool, true, false, ◌&&◌, [], ◌∷◌, set, Option, Some, None, nat_le, ◌==◌, if◌then◌else◌}
 use Rattle.isa_model.specs.Bits.{bits, word_address}
 use Rattle.isa_model.specs.Arithmetic.{bit_of}
 use Rattle.hart_model.specs.declared.tag.Mode.{Mode}
 use Rattle.hart_model.specs.declared.tag.Mode.TheVariants.{User, Machine}
 use Rattle.hart_model.specs.declared.tag.Tag.{Tag}
-use Rattle.hart_model.specs.declared.tag.Tag.TheVariants.{Public, Of, Many}
+use Rattle.hart_model.specs.declared.tag.Tag.TheVariants.{Public}
 use Rattle.hart_model.specs.declared.tag.Cell.{Cell}
 use Rattle.hart_model.specs.Cells.{blank}
 use Rattle.hart_model.specs.Pmp.{PmpFile, addr_of, legal_pmpcfg, boot_pmpcfg}

@@ -5,3 +5,4 @@ pub mod Probes
 pub mod Pmp
 pub mod Csrs
 pub mod Traps
+pub mod Laws

@@ -1,11 +1,11 @@
 -- Why a write is explained (this project's own), by the mode, the latch and the two tags alone.
-use Rattle.std.specs.Prelude.{ℕ, suc, ◌+◌, Bool, true, false, ◌&&◌, nat_le, ◌==◌}
+use Rattle.std.specs.Prelude.{ℕ, suc, Bool, true, false, ◌&&◌, nat_le, ◌==◌}
 use Rattle.isa_model.specs.declared.latch.Latch.{Latch}
 use Rattle.isa_model.specs.LatchOrder.{same_latch}
 use Rattle.hart_model.specs.declared.tag.Tag.{Tag}
-use Rattle.hart_model.specs.declared.tag.Tag.TheVariants.{Public, Of, Many}
+use Rattle.hart_model.specs.declared.tag.Tag.TheVariants.{Public, Of}
 use Rattle.hart_model.specs.declared.tag.Mode.{Mode}
-use Rattle.hart_model.specs.declared.tag.Mode.TheVariants.{User, Machine}
+use Rattle.hart_model.specs.declared.tag.Mode.TheVariants.{User}
 use Rattle.hart_model.specs.declared.probe.Why.{Why}
 use Rattle.hart_model.specs.declared.probe.Why.TheVariants as whys
 use Rattle.hart_model.specs.declared.probe.Side.TheVariants.{Was, Now}
