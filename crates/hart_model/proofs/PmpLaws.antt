@@ -10,10 +10,11 @@ use Rattle.isa_model.specs.Alone.{code_word_at, is_data_address}
 use Rattle.hart_model.specs.declared.access.Access.{Access}
 use Rattle.hart_model.specs.declared.access.Access.TheVariants.{Read, Write, Fetch}
 use Rattle.hart_model.specs.declared.region.Region.{Region}
-use Rattle.hart_model.specs.Pmp.{low_ones, is_touched, is_covered, is_permitted, IsAccessSize}
+use Rattle.hart_model.specs.Pmp.{low_ones, is_allowed_by, is_touched, is_covered, is_permitted, IsAccessSize}
 use Rattle.hart_model.specs.Laws.{LowestMatchDecides, UnmatchedFails, NapotIsAligned, BoundsAllowRunAlone, is_allowed_alone}
 
 pub lowest_decides : LowestMatchDecides
+unfolding is_allowed_by
 lowest_decides p at size zero kind h = rw h.matches refl
 lowest_decides p at size (suc zero) kind h =
     let n0 = h.below 0 (omega arith) in rw (n0, h.matches) refl
@@ -25,12 +26,14 @@ lowest_decides p at size (suc (suc (suc zero))) kind h =
 lowest_decides p at size (suc (suc (suc (suc k)))) kind h = absurd (omega (arith, h.exists))
 
 pub unmatched_fails : UnmatchedFails
+unfolding is_allowed_by
 unmatched_fails p at size kind none =
     let n0 = none 0 (omega arith) in let n1 = none 1 (omega arith) in let n2 = none 2 (omega arith) in let n3 = none 3 (omega arith) in
     rw (n0, n1, n2, n3) refl
 
 -- a word that ends in a 0 and k ones has k low ones
 pub low_ones_of : (width m k : ℕ) → k ≤ width → low_ones width (m * 2 ^ (k + 1) + (2 ^ k - 1)) ≡ k
+unfolding low_ones
 low_ones_of zero m zero h = refl
 low_ones_of zero m (suc k) h = absurd (omega arith)
 low_ones_of (suc width) m zero h =
@@ -162,6 +165,7 @@ by_kind T at Write false true c d apart = sym d
 by_kind T at Write false false c d apart = sym d
 
 pub bounds_allow : BoundsAllowRunAlone
+unfolding is_allowed_by
 bounds_allow T valid at size kind s even =
     let code_low : 4 * (T.code_at / 4) ≡ T.code_at = omega (arith, valid.code_aligned) in
     let code_high : 4 * ((T.code_at + 4 * length T.code) / 4) ≡ T.code_at + 4 * length T.code = omega (arith, valid.code_aligned) in

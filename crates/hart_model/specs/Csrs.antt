@@ -96,7 +96,7 @@ abbrev pub public : ℕ → Cell
 public value = record { value = value; tag = Public }
 
 -- what a read of a CSR gives, by its number; None where there is no such CSR
-abbrev pub csr_cell : CsrFile → ℕ → Option Cell
+unfoldable pub csr_cell : CsrFile → ℕ → Option Cell
 csr_cell c number =
     if number == mstatus then Some (public (mstatus_value c))
     else if number == mie then Some (public (mie_value c))
@@ -150,5 +150,5 @@ with_csr_by_tag c number value Public = with_public_csr c number value
 with_csr_by_tag c number value tag = None
 
 -- the file after a write; None where it is refused: no such CSR, mhartid, or a tagged value for one that is not mscratch
-abbrev pub with_csr : CsrFile → ℕ → Cell → Option CsrFile
+unfoldable pub with_csr : CsrFile → ℕ → Cell → Option CsrFile
 with_csr c number cell = if number == mscratch then Some (record c { mscratch = cell }) else with_csr_by_tag c number cell.value cell.tag

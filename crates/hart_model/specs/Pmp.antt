@@ -33,7 +33,7 @@ matching_of cfg =
     let a = bits 3 2 cfg in if a == 0 then Off else if a == 1 then Tor else if a == 2 then Na4 else Napot
 
 -- how many of the low bits are 1, counted up to `width`
-abbrev pub low_ones : ℕ → ℕ → ℕ
+unfoldable pub low_ones : ℕ → ℕ → ℕ
 low_ones zero n = 0
 low_ones (suc width) n = if n % 2 == 1 then 1 + low_ones width (n / 2) else 0
 
@@ -73,7 +73,7 @@ abbrev pub is_permitted : ℕ → Access → Bool
 is_permitted cfg kind = bits (permission_bit kind) 1 cfg == 1
 
 -- The first of these entries that has any byte of the access decides: it has to have all of them and to permit the access.
-abbrev pub is_allowed_by : PmpFile → ℕ → ℕ → Access → List ℕ → Bool
+unfoldable pub is_allowed_by : PmpFile → ℕ → ℕ → Access → List ℕ → Bool
 is_allowed_by p at size kind [] = false
 is_allowed_by p at size kind (i ∷ is) =
     if is_touched (region_of p i) at size then is_covered (region_of p i) at size && is_permitted (cfg_of p i) kind
