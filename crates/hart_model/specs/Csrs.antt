@@ -1,11 +1,11 @@
 -- The control and status registers of this profile (privileged manual, "Machine-Level CSRs"): exactly these exist.
-use Rattle.std.specs.Prelude.{◌≡◌, ℕ, ◌+◌, ◌-◌, ◌*◌, ◌/◌, ◌%◌, ◌^◌, Bool, true, false, ◌&&◌, ◌||◌, List, [], ◌∷◌, set, Option, Some, None, nat_le, ◌==◌, if◌then◌else◌}
+use Rattle.std.specs.Prelude.{ℕ, ◌+◌, ◌-◌, ◌*◌, ◌^◌, Bool, true, false, ◌&&◌, [], ◌∷◌, set, Option, Some, None, nat_le, ◌==◌, if◌then◌else◌}
 use Rattle.isa_model.specs.Bits.{bits, word_address}
 use Rattle.isa_model.specs.Arithmetic.{bit_of}
 use Rattle.hart_model.specs.declared.tag.Mode.{Mode}
 use Rattle.hart_model.specs.declared.tag.Mode.TheVariants.{User, Machine}
 use Rattle.hart_model.specs.declared.tag.Tag.{Tag}
-use Rattle.hart_model.specs.declared.tag.Tag.TheVariants.{Public, Of, Many}
+use Rattle.hart_model.specs.declared.tag.Tag.TheVariants.{Public}
 use Rattle.hart_model.specs.declared.tag.Cell.{Cell}
 use Rattle.hart_model.specs.Cells.{blank}
 use Rattle.hart_model.specs.Pmp.{PmpFile, addr_of, legal_pmpcfg, boot_pmpcfg}
@@ -96,7 +96,7 @@ abbrev pub public : ℕ → Cell
 public value = record { value = value; tag = Public }
 
 -- what a read of a CSR gives, by its number; None where there is no such CSR
-abbrev pub csr_cell : CsrFile → ℕ → Option Cell
+unfoldable pub csr_cell : CsrFile → ℕ → Option Cell
 csr_cell c number =
     if number == mstatus then Some (public (mstatus_value c))
     else if number == mie then Some (public (mie_value c))
@@ -150,5 +150,5 @@ with_csr_by_tag c number value Public = with_public_csr c number value
 with_csr_by_tag c number value tag = None
 
 -- the file after a write; None where it is refused: no such CSR, mhartid, or a tagged value for one that is not mscratch
-abbrev pub with_csr : CsrFile → ℕ → Cell → Option CsrFile
+unfoldable pub with_csr : CsrFile → ℕ → Cell → Option CsrFile
 with_csr c number cell = if number == mscratch then Some (record c { mscratch = cell }) else with_csr_by_tag c number cell.value cell.tag

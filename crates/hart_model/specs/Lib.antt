@@ -6,3 +6,4 @@ pub mod Probes
 pub mod Pmp
 pub mod Csrs
 pub mod Traps
+pub mod Laws

@@ -1,6 +1,6 @@
 -- Traps and their return (privileged manual, "Machine Status Registers", "Machine Trap-Vector Base-Address Register",
 -- "Machine Exception Program Counter", "Machine Cause Register", "Trap-Return Instructions"), and interrupts.
-use Rattle.std.specs.Prelude.{ℕ, Bool, true, false, ◌&&◌, ◌||◌, Option, Some, None, if◌then◌else◌}
+use Rattle.std.specs.Prelude.{ℕ, Bool, true, false, ◌&&◌, Option, Some, None, if◌then◌else◌}
 use Rattle.hart_model.specs.declared.tag.Mode.{Mode}
 use Rattle.hart_model.specs.declared.tag.Mode.TheVariants.{User, Machine}
 use Rattle.hart_model.specs.Csrs.{CsrFile}

@@ -3,12 +3,15 @@
 #![tactic(auto)]
 
 pub mod access;
+pub mod laws;
 pub mod place;
 pub mod probe;
+pub mod region;
 pub mod tag;
 pub mod why_laws;
 
 pub use access::Access;
 pub use place::Place;
 pub use probe::{Probe, Side, Why};
+pub use region::{AddressMatching, Region};
 pub use tag::{Cell, Mode, Tag};
