@@ -82,6 +82,7 @@ data-written T m v at word within h =
     let aligned : m.memory.at % 4 ≡ 0 = rw h.data_at h.aligned in
     record {
       values = value_written m v at word aligned within h.values;
+      zero = h.zero;
       data_at = h.data_at;
       data_len = simp length-set h.data_len;
       aligned = h.aligned;

@@ -1,12 +1,12 @@
 //! The run alone, an instruction at a time and whole.
 
-ghost use Rattle.std.specs.Prelude.{◌≡◌, ◌+◌, ◌<◌, ◌≤◌, ◌^◌, IfSome, IfNone, IfOk, IsSome, None, ℕ, slice_index};
+ghost use Rattle.std.specs.Prelude.{◌≡◌, ◌+◌, ◌<◌, ◌≤◌, ◌^◌, IfSome, IfNone, IfOk, IsSome, None, false, ℕ, slice_index};
 ghost use Rattle.isa_model.specs.declared.task.Task.{Task};
 ghost use Rattle.isa_model.specs.TaskPlaces.{IsValidTask};
 ghost use Rattle.isa_model.specs.Alone.{AloneState, alone_at, fuel_checked_state};
 ghost use Rattle.isa_model.specs.AloneValue.{alone_value};
 ghost use Rattle.isa_model.specs.Control.{control_at};
-ghost use Rattle.alone_run.specs.LatchValues.{Holds};
+ghost use Rattle.alone_run.specs.LatchValues.{Holds, has_latch};
 ghost use Rattle.alone_run.specs.StandsFor.{StandsFor};
 ghost use Rattle.alone_run.specs.IsAt.{IsAt};
 ghost use Rattle.alone_run.specs.Whole.{IsEndOf};
@@ -130,6 +130,7 @@ impl Alone {
     /// The value of a latch, and 0 for one that the task hasn't: x0, `mscratch`, and an address that isn't one of its data words.
     pub fn value(&self, latch: Latch) -> u32
         ensures value { result ≡ alone_value self.now.task self.now.count latch }
+        ensures absent { has_latch self.now.task latch ≡ false → result ≡ 0 }
     {
         self.machine.latches.value(latch)
     }
