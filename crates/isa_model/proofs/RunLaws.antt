@@ -1,5 +1,5 @@
 -- What every instruction of the run alone keeps, and what its control tells.
-use Rattle.std.proofs.Common.{◌≡◌, ℕ, zero, suc, ◌+◌, ◌*◌, ◌/◌, ◌%◌, ◌^◌, Bool, true, false, cond, ◌==◌, eqb, eq-eqb, if◌then◌else◌, List, [], ◌∷◌, ◌++◌, length, length-append, Option, Some, None, is_none, option_map, slice_get, nat_lt, refl, ap, sym, ◌∙◌, arith, add-one}
+use Rattle.std.proofs.Common.{◌≡◌, ℕ, zero, suc, ◌+◌, ◌*◌, ◌/◌, ◌%◌, ◌^◌, Bool, true, false, ◌==◌, if◌then◌else◌, List, [], ◌∷◌, ◌++◌, length, length-append, Option, Some, None, is_none, option_map, slice_get, nat_lt, refl, ap, sym, ◌∙◌, arith, add-one}
 use Rattle.isa_model.specs.declared.instr.Instr.{Instr}
 use Rattle.isa_model.specs.declared.instr.Instr.TheVariants.{Lui, Auipc, Jal, Jalr, Branch, Load, Store, AluImm, AluReg, Fence, Ecall, Ebreak, Mret, Csr, CsrImm}
 use Rattle.isa_model.specs.declared.latch.Latch.{Latch}
@@ -19,8 +19,8 @@ use Rattle.isa_model.specs.declared.instr.StoreKind.{StoreKind}
 use Rattle.std.proofs.lemmas.Bool.{cond_both, eqb-true}
 use Rattle.isa_model.specs.InstrTable.{instr_of}
 use Rattle.isa_model.specs.Effect.{Flow, Constant, Mixed, Rs1, Rs2, to, to_reg, result, port_a, loaded_flow, Next, Goes, Raises, Calls, Returns, Effect, Write, Operands, effect_of, jump, does, ports, load_word, store_word, address}
-use Rattle.isa_model.specs.Alone.{AloneState, Executed, alone_at, start_of, after_instr, after_fetch, after_decode, after_effect, after_writes, after_call, after_in, after_out, after_end, after_service, after_fault, with_value, values_after, code_word_at, is_privileged, deed_of, rs1_of, fuel_checked_state, if_fuel_used, unless_ended, operands_of}
-use Rattle.isa_model.specs.Control.{control_at, control_to, control_of, kind_of, end_kind_of}
+use Rattle.isa_model.specs.Alone.{AloneState, Executed, alone_at, start_of, after_instr, after_fetch, after_decode, after_effect, after_writes, after_call, after_in, after_out, after_end, after_service, after_fault, with_value, values_after, code_word_at, is_privileged, deed_of, rs1_of, if_fuel_used, unless_ended, operands_of}
+use Rattle.isa_model.specs.Control.{control_to, control_of, kind_of, end_kind_of}
 
 -- What the start has, and every instruction and the end by used fuel keep, always holds.
 module _ (T : Task) (P : AloneState → Type 0) where

@@ -1,13 +1,13 @@
 -- A small task run alone, computed: 42 is put out, and the task exits with it.
-use Rattle.std.proofs.Common.{◌≡◌, ℕ, refl, [], ◌∷◌, Some, None}
+use Rattle.std.proofs.Common.{◌≡◌, ℕ, refl, [], ◌∷◌, Some}
 use Rattle.isa_model.specs.declared.latch.Latch.TheVariants as latches
 use Rattle.isa_model.specs.declared.ends.End.TheVariants.{Exited, Faulted, OutOfSteps}
 use Rattle.isa_model.specs.declared.ends.EndKind.TheVariants as kinds
-use Rattle.isa_model.specs.declared.control.Deed.TheVariants.{Ran, Stored, Called, Ended}
+use Rattle.isa_model.specs.declared.control.Deed.TheVariants.{Ran, Called, Ended}
 use Rattle.isa_model.specs.declared.task.Task.{Task}
 use Rattle.isa_model.specs.Alone.{alone_at, after_instr, count_to, last_of, count_of}
 use Rattle.isa_model.specs.AloneValue.{alone_value, alone_change}
-use Rattle.isa_model.specs.Control.{control_to, control_of, end_kind_of}
+use Rattle.isa_model.specs.Control.{control_to, control_of}
 
 abbrev forty_two : ℕ → Task
 forty_two fuel = record {

@@ -1,5 +1,5 @@
 -- The arithmetic on numbers whose results are known.
-use Rattle.std.proofs.Common.{◌≡◌, ℕ, refl, true, false}
+use Rattle.std.proofs.Common.{◌≡◌, refl, true, false}
 use Rattle.isa_model.specs.declared.instr.Alu.TheVariants.{Sub, Sll, Slt, Sltu, Srl, Sra}
 use Rattle.isa_model.specs.declared.instr.Cmp.TheVariants.{Blt, Bge, Bltu, Bgeu}
 use Rattle.isa_model.specs.declared.instr.LoadKind.TheVariants as loads

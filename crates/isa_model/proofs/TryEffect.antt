@@ -1,13 +1,13 @@
 -- Rows of the effect table, computed.
-use Rattle.std.proofs.Common.{◌≡◌, ℕ, refl, [], ◌∷◌, Some, None, pos, negsuc}
-use Rattle.isa_model.specs.declared.instr.Instr.TheVariants.{Lui, Jal, Jalr, Branch, Load, Store, AluImm, AluReg, Csr, CsrImm}
+use Rattle.std.proofs.Common.{◌≡◌, refl, [], ◌∷◌, Some, None, pos, negsuc}
+use Rattle.isa_model.specs.declared.instr.Instr.TheVariants.{Jal, Jalr, Branch, Load, Store, AluImm, AluReg, Csr, CsrImm}
 use Rattle.isa_model.specs.declared.instr.LoadKind.TheVariants as loads
 use Rattle.isa_model.specs.declared.instr.StoreKind.TheVariants as stores
 use Rattle.isa_model.specs.declared.instr.Alu.TheVariants.{Add, And}
 use Rattle.isa_model.specs.declared.instr.Cmp.TheVariants.{Beq, Bne}
 use Rattle.isa_model.specs.declared.instr.CsrOp.TheVariants.{Rw, Rs, Rc}
 use Rattle.isa_model.specs.declared.latch.Latch.TheVariants as latches
-use Rattle.isa_model.specs.Effect.{effect_of, Operands, Effect, Write, CsrWrite, Moved, Mixed, Constant, Rs1, Rs2, Word, OldCsr, Goes, Raises}
+use Rattle.isa_model.specs.Effect.{effect_of, Operands, Moved, Mixed, Rs1, Rs2, Word, OldCsr, Goes, Raises}
 
 abbrev o : Operands
 o = record { rs1 = 0x108000; rs2 = 0x1ff; word = Some 0x80a0b0c0; old_csr = 7 }
