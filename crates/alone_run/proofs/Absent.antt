@@ -1,6 +1,6 @@
 -- A latch that the task hasn't is 0.
-use Rattle.std.proofs.Common.{◌≡◌, ℕ, ◌+◌, ◌-◌, ◌*◌, ◌/◌, ◌%◌, ◌<◌, ◌≤◌, ◌==◌, ◌∙◌, length, arith, Bool, true, false, not, ◌&&◌, cond, eqb, ltb, leb, unwrap_or, slice_get, if◌then◌else◌, ⊎_elim, refl, ap}
-use Rattle.std.proofs.lemmas.Bool.{cases_eq, cases_lt, eq-eqb, ne_eqb, lt-ltb, le-ltb, le-leb, lt-leb, eqb-true, not-false}
+use Rattle.std.proofs.Common.{◌≡◌, ℕ, ◌+◌, ◌*◌, ◌%◌, ◌<◌, ◌≤◌, ◌==◌, ◌∙◌, length, arith, false, ◌&&◌, unwrap_or, if◌then◌else◌, ⊎_elim, refl, ap}
+use Rattle.std.proofs.lemmas.Bool.{cases_eq, cases_lt, eq-eqb, ne_eqb, lt-ltb, le-leb, lt-leb, eqb-true, not-false}
 use Rattle.std.proofs.lemmas.Option.{slice_get_past}
 use Rattle.isa_model.specs.declared.latch.Latch.{Latch}
 use Rattle.isa_model.specs.declared.latch.Latch.TheVariants as latches
@@ -16,18 +16,18 @@ outside : (T : Task) (d : DataWords) (at : ℕ) → d.at ≡ T.data_at → lengt
 outside T d at place len absent =
     ⊎_elim
     (λ (even : at % 4 ≡ 0). ⊎_elim
-        (λ (below : at < d.at). rw (eq-eqb (at % 4) 0 even, lt-leb d.at at below) refl)
-        (λ (up : d.at ≤ at). ⊎_elim
-            (λ (inside : at < d.at + 4 * length d.words).
-                let place' : T.data_at ≤ at = omega arith in
-                let inside' : at < T.data_at + 4 * T.data_len = omega arith in
-                let h = rw (le-leb T.data_at at place', lt-ltb at (T.data_at + 4 * T.data_len) inside', eq-eqb (at % 4) 0 even) at absent in
-                cc)
-            (λ (past : d.at + 4 * length d.words ≤ at).
-                let beyond : length d.words ≤ data_index d at = omega arith in
-                rw (eq-eqb (at % 4) 0 even, le-leb d.at at up, slice_get_past d.words (data_index d at) beyond) refl)
-            (cases_lt at (d.at + 4 * length d.words)))
-        (cases_lt at d.at))
+    (λ (below : at < d.at). rw (eq-eqb (at % 4) 0 even, lt-leb d.at at below) refl)
+    (λ (up : d.at ≤ at). ⊎_elim
+    (λ (inside : at < d.at + 4 * length d.words).
+    let place' : T.data_at ≤ at = omega arith in
+    let inside' : at < T.data_at + 4 * T.data_len = omega arith in
+    let h = rw (le-leb T.data_at at place', lt-ltb at (T.data_at + 4 * T.data_len) inside', eq-eqb (at % 4) 0 even) at absent in
+    cc)
+    (λ (past : d.at + 4 * length d.words ≤ at).
+    let beyond : length d.words ≤ data_index d at = omega arith in
+    rw (eq-eqb (at % 4) 0 even, le-leb d.at at up, slice_get_past d.words (data_index d at) beyond) refl)
+    (cases_lt at (d.at + 4 * length d.words)))
+    (cases_lt at d.at))
     (λ (odd : at % 4 ≡ 0 → ⊥). rw (ne_eqb (at % 4) 0 odd) refl)
     (cases_eq (at % 4) 0)
 
