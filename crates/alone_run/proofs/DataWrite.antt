@@ -1,5 +1,5 @@
 -- A data word that is written: the latch of its address holds it, and every other latch is as before.
-use Rattle.std.proofs.Common.{◌≡◌, ◌≢◌, ℕ, ◌+◌, ◌-◌, ◌*◌, ◌/◌, ◌%◌, ◌<◌, ◌≤◌, ◌==◌, ◌∙◌, sym, ap, length, length-set, get_or, set, arith, IsSome, Option, Some, None, is_some, Bool, true, false, cond, eqb, leb, unwrap_or, slice_get, slice_set, if◌then◌else◌, nat_le, ⊎_elim, refl}
+use Rattle.std.proofs.Common.{◌≡◌, ◌≢◌, ℕ, ◌%◌, ◌<◌, ◌≤◌, ◌==◌, ◌∙◌, sym, ap, length, length-set, get_or, set, arith, IsSome, cond, eqb, unwrap_or, if◌then◌else◌, ⊎_elim, refl}
 use Rattle.std.proofs.lemmas.Bool.{cases_eq, cases_lt, eq-eqb, ne_eqb, le-leb, lt-leb}
 use Rattle.std.proofs.lemmas.Option.{unwrap_or-slice_get, slice_get_past}
 use Rattle.std.proofs.lemmas.List.{get_or-set_same, get_or-set_other}

@@ -1,5 +1,5 @@
 -- The writes of an effect may be done in two parts.
-use Rattle.std.proofs.Common.{◌≡◌, ℕ, ◌+◌, ◌%◌, ◌==◌, List, [], ◌∷◌, ◌++◌, Option, Some, None, Bool, true, false, cond, refl, ap, sym, ◌∙◌, if◌then◌else◌}
+use Rattle.std.proofs.Common.{◌≡◌, ℕ, ◌+◌, ◌%◌, ◌==◌, List, [], ◌∷◌, ◌++◌, Option, Some, None, Bool, true, false, cond, refl, ap, sym, ◌∙◌}
 use Rattle.isa_model.specs.declared.instr.LoadKind.{LoadKind}
 use Rattle.isa_model.specs.declared.instr.StoreKind.{StoreKind}
 use Rattle.isa_model.specs.declared.control.Deed.{Deed}

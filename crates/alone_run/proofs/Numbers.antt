@@ -3,7 +3,7 @@ use Rattle.std.proofs.Common.{◌≡◌, ℕ, ◌+◌, ◌%◌, ◌^◌, Bool, a
 use Rattle.isa_model.specs.declared.instr.Alu.{Alu}
 use Rattle.isa_model.specs.declared.instr.Cmp.{Cmp}
 use Rattle.isa_model.specs.Arithmetic.{alu_of, is_taken}
-use Rattle.isa_model.specs.Bits.{low_word, two_complement}
+use Rattle.isa_model.specs.Bits.{low_word}
 use Rattle.isa_model.specs.Effect.{address}
 
 pub same_alu : (op : Alu) (a b x y r : ℕ) → r ≡ alu_of op a b → a ≡ x → b ≡ y → r ≡ alu_of op x y

@@ -1,5 +1,5 @@
 -- A machine in the run of a task.
-use Rattle.std.specs.Prelude.{◌≡◌, ℕ, ◌<◌, ◌≤◌, ◌^◌, None}
+use Rattle.std.specs.Prelude.{◌≡◌, ℕ, ◌<◌, ◌≤◌, None}
 use Rattle.isa_model.specs.declared.task.Task.{Task}
 use Rattle.isa_model.specs.Alone.{alone_at}
 use Rattle.alone_run.specs.StandsFor.{StandsFor}

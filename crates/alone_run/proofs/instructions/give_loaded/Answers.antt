@@ -1,5 +1,4 @@
 -- There is a word or there is none.
-use Rattle.std.proofs.Common.{◌≡◌}
 use Rattle.isa_model.specs.declared.latch.Latch.TheVariants.{Load}
 use Rattle.isa_model.specs.Effect.{to_reg, loaded_flow}
 use Rattle.isa_model.specs.Alone.{with_value, values_after}

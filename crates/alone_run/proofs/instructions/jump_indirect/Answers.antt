@@ -1,5 +1,5 @@
 -- The port is written before the target is checked.
-use Rattle.std.proofs.Common.{◌≡◌, ◌+◌, ◌*◌, ◌/◌, [], ◌∷◌}
+use Rattle.std.proofs.Common.{◌≡◌, ◌+◌, ◌*◌, ◌/◌}
 use Rattle.std.proofs.lemmas.Int.{to_z-of_z}
 use Rattle.isa_model.specs.declared.control.Deed.TheVariants.{Ran}
 use Rattle.isa_model.specs.declared.latch.Latch.TheVariants.{Reg, PortA}

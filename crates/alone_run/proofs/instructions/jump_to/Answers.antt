@@ -1,11 +1,9 @@
 -- The target is a multiple of 4 or it isn't.
-use Rattle.std.proofs.Common.{◌≡◌, ◌%◌, ◌+◌, refl, ap, ◌∙◌, sym}
+use Rattle.std.proofs.Common.{◌%◌, ◌+◌, refl}
 use Rattle.std.proofs.lemmas.Bool.{eq-eqb, ne_eqb}
 use Rattle.isa_model.specs.declared.latch.Latch.TheVariants.{Res}
 use Rattle.isa_model.specs.Bits.{low_word}
-use Rattle.isa_model.specs.Effect.{result}
-use Rattle.isa_model.specs.Alone.{with_value, values_after}
-use Rattle.alone_run.proofs.Standing.{stands-latches}
+use Rattle.isa_model.specs.Alone.{with_value}
 use Rattle.alone_run.proofs.instructions.jump_to.Goals as goal
 
 pub returns-then-target-ne0 : goal.returns-then-target-ne0

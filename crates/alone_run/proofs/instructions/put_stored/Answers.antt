@@ -1,8 +1,7 @@
 -- There is a data word or there is none.
-use Rattle.std.proofs.Common.{◌≡◌, Some, None, sym}
 use Rattle.isa_model.specs.declared.latch.Latch.TheVariants.{Store, Mem}
 use Rattle.isa_model.specs.Bits.{word_address}
-use Rattle.isa_model.specs.Alone.{with_value, values_after, data_word_at}
+use Rattle.isa_model.specs.Alone.{with_value}
 use Rattle.alone_run.proofs.Standing.{stands-latches}
 use Rattle.alone_run.proofs.instructions.put_stored.Goals as goal
 

@@ -1,8 +1,6 @@
 -- The registers are read, and the ports have their values.
-use Rattle.std.proofs.Common.{◌≡◌, ap}
-use Rattle.isa_model.specs.declared.latch.Latch.TheVariants.{PortA, PortB}
+use Rattle.isa_model.specs.declared.latch.Latch.TheVariants.{PortA}
 use Rattle.isa_model.specs.Alone.{with_value}
-use Rattle.alone_run.specs.LatchValues.{Holds}
 use Rattle.alone_run.proofs.operands.both_operands.Goals as goal
 
 pub returns-clause-first : goal.returns-clause-first

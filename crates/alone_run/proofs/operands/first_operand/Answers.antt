@@ -1,8 +1,4 @@
 -- The register is read, and the port has its value.
-use Rattle.std.proofs.Common.{◌≡◌, ap}
-use Rattle.isa_model.specs.declared.latch.Latch.TheVariants.{PortA}
-use Rattle.isa_model.specs.Alone.{with_value}
-use Rattle.alone_run.specs.LatchValues.{Holds}
 use Rattle.alone_run.proofs.operands.first_operand.Goals as goal
 
 pub returns-clause-value : goal.returns-clause-value

@@ -1,6 +1,6 @@
 -- The state after one instruction more.
-use Rattle.std.proofs.Common.{◌≡◌, ◌+◌, ◌<◌, ◌≢◌, sym, ◌∙◌, arith, None, ap, refl}
-use Rattle.isa_model.specs.Alone.{alone_at, after_instr, fuel_checked_state}
+use Rattle.std.proofs.Common.{◌≡◌, ◌+◌, ◌≢◌, sym, ◌∙◌, arith, None, ap, refl}
+use Rattle.isa_model.specs.Alone.{alone_at, after_instr}
 use Rattle.isa_model.proofs.AloneLaws.{alone-next, fuel-left}
 use Rattle.alone_run.proofs.running.advance.Goals as goal
 

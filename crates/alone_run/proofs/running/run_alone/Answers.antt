@@ -1,5 +1,5 @@
 -- Where it stopped is the end of the whole run.
-use Rattle.std.proofs.Common.{◌≡◌, ℕ, ◌<◌, ◌≤◌, sym, ◌∙◌, arith, Some, None, ap, refl, IsSome}
+use Rattle.std.proofs.Common.{◌≡◌, ℕ, ◌<◌, ◌≤◌, sym, ◌∙◌, arith, Some, None, ap, IsSome}
 use Rattle.isa_model.specs.declared.task.Task.{Task}
 use Rattle.isa_model.specs.Alone.{alone_at}
 use Rattle.isa_model.proofs.AloneLaws.{last-is, count-is}

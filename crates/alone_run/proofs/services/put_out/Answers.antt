@@ -1,8 +1,7 @@
 -- There is room in the machine's output exactly where there is room in the state's.
-use Rattle.std.proofs.Common.{◌≡◌, ℕ, ◌++◌, [], ◌∷◌, length, nat_lt, true, false, sym, ◌∙◌, refl, ap}
+use Rattle.std.proofs.Common.{◌≡◌, ◌++◌, [], ◌∷◌, length, nat_lt, true, false, sym, ◌∙◌, refl, ap}
 use Rattle.isa_model.specs.declared.task.Task.{Task}
 use Rattle.isa_model.specs.Alone.{AloneState}
-use Rattle.alone_run.specs.OutputWords.{OutputWords}
 use Rattle.alone_run.specs.StandsFor.{StandsFor}
 use Rattle.alone_run.specs.declared.machine.Machine.{Machine}
 use Rattle.alone_run.proofs.services.put_out.Goals as goal

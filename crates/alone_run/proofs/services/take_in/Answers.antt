@@ -1,7 +1,7 @@
 -- The next word of the machine's tape is that of the state's.
-use Rattle.std.proofs.Common.{◌≡◌, ℕ, ◌+◌, sym, ◌∙◌, refl, ap, Option, Some, None, slice_get}
+use Rattle.std.proofs.Common.{◌≡◌, ◌+◌, sym, ◌∙◌, ap, Some, None, slice_get}
 use Rattle.isa_model.specs.declared.latch.Latch.TheVariants.{Reg}
-use Rattle.isa_model.specs.Alone.{AloneState, with_value}
+use Rattle.isa_model.specs.Alone.{with_value}
 use Rattle.alone_run.proofs.services.take_in.Goals as goal
 
 pub returns-in-Some : goal.returns-in-Some
