@@ -5,7 +5,9 @@ use std::process::Abort;
 use std::test::Fail;
 
 /// A task that puts out 42 and exits with it.
-const FORTY_TWO: &str = "bundle 1\nslots 1\ntask fuel 5 out 4 data 0\nwords 02a00513 00100893 00000073 00000893 00000073\nendtask\n";
+const FORTY_TWO: &str =
+    "bundle 1\nslots 1\ntask fuel 5 out 4 data 0\nwords 02a00513 00100893 00000073 00000893 00000073\nendtask\n";
+
 const FORTY_TWO_REPORT: &str = "task 0: exited 0000002a count 5\nout 0: 0000002a\n";
 
 /// No listed call fails.
@@ -60,7 +62,12 @@ fn runs<R: Abort + AllocGlobal>(
         edge.failing_writes.to_vec(alloc)?,
     )?;
     let status = one_thread(alloc, words.as_slice(), &mut src, &mut sink);
-    assert_eq!(rt; status_number(status), number, "{words:?}, {} bytes", input.len());
+    assert_eq!(rt;
+        status_number(status),
+        number,
+        "{words:?}, {} bytes",
+        input.len()
+    );
     assert_eq!(rt; sink.bytes(), written, "{words:?}, {} bytes", input.len());
     let rest = read_all(alloc, &mut src, input.len())?;
     assert_eq!(rt; rest.len(), left, "{words:?}, {} bytes", input.len());
@@ -117,7 +124,15 @@ fn input_at_the_limit(rt: HostRuntime) -> Result<(), Fail> {
     input.push(b' ')?;
     runs_alone(&rt, input.as_slice(), 3, "too large\n")?;
     input.push(b' ')?;
-    runs(&rt, &["alone"], input.as_slice(), SOUND, 3, b"too large\n", 1)
+    runs(
+        &rt,
+        &["alone"],
+        input.as_slice(),
+        SOUND,
+        3,
+        b"too large\n",
+        1,
+    )
 }
 
 #[test]
