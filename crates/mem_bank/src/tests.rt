@@ -9,6 +9,13 @@ fn public(value: u32) -> Cell {
     }
 }
 
+fn mixed() -> Cell {
+    Cell {
+        value: 0xffff_ffff,
+        tag: Tag::Many,
+    }
+}
+
 fn holds<R: Abort>(rt: &R, bank: &Bank, addr: u32, wanted: Option<Cell>) {
     assert_eq!(rt; bank.read(addr), wanted, "at {addr}");
 }
@@ -22,15 +29,11 @@ fn borders_of_a_bank(rt: HostRuntime) -> Result<(), Fail> {
     holds(&rt, &bank, 0x10_8008, Some(public(0)));
     holds(&rt, &bank, 0x10_800c, None);
 
-    let mixed = Cell {
-        value: 0xffff_ffff,
-        tag: Tag::Many,
-    };
-    assert!(rt; bank.write(0x10_8008, mixed));
+    assert!(rt; bank.write(0x10_8008, mixed()));
     assert!(rt; !bank.write(0x10_800c, public(7)));
     assert!(rt; !bank.write(0x10_8005, public(7)));
     holds(&rt, &bank, 0x10_8004, Some(public(0)));
-    holds(&rt, &bank, 0x10_8008, Some(mixed));
+    holds(&rt, &bank, 0x10_8008, Some(mixed()));
     Ok(())
 }
 
