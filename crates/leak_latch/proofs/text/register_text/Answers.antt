@@ -1,4 +1,4 @@
-use Rattle.std.proofs.Common.{◌≡◌, ◌<◌, ◌≤◌, arith, rules}
+use Rattle.std.proofs.Common.{arith, rules}
 use Rattle.std.proofs.lemmas.Fmt.{decimal_digit}
 use Rattle.leak_latch.proofs.Decimals.{decimal_two_digits}
 use Rattle.leak_latch.proofs.text.register_text.Goals as goal
