@@ -1,5 +1,5 @@
 -- How the run alone goes on, and that it stays as it is where it ended.
-use Rattle.std.proofs.Common.{◌≡◌, ℕ, zero, suc, ◌+◌, ◌-◌, ◌<◌, ◌≤◌, ◌≢◌, eq-eqb, Option, Some, None, is_none, false, true, refl, ap, sym, ◌∙◌, add-one, arith, if◌then◌else◌, cond, IsSome}
+use Rattle.std.proofs.Common.{◌≡◌, ℕ, zero, suc, ◌+◌, ◌-◌, ◌<◌, ◌≤◌, ◌≢◌, eq-eqb, Option, Some, None, is_none, refl, ap, ◌∙◌, add-one, arith, cond, IsSome}
 use Rattle.isa_model.specs.declared.ends.End.{End}
 use Rattle.isa_model.specs.declared.task.Task.{Task}
 use Rattle.isa_model.specs.Alone.{AloneState, alone_at, after_instr, fuel_checked_state, unless_ended, if_fuel_used, count_to}

@@ -1,7 +1,7 @@
 -- What one instruction does: the latches that it writes, in order, each with its value and with what flows into it; the CSR
 -- that it writes; and what follows. One row a form. The behaviour is that of the unprivileged manual (RV32I and Zicsr); which
 -- latches are written, and in which order, is this project's own. Privilege is checked before.
-use Rattle.std.specs.Prelude.{◌≡◌, ℕ, ◌+◌, ◌*◌, ◌/◌, ◌%◌, ◌^◌, Bool, true, false, ◌&&◌, not, List, [], ◌∷◌, ◌++◌, map, Option, None, Some, ℤ, ◌==◌, if◌then◌else◌}
+use Rattle.std.specs.Prelude.{ℕ, ◌+◌, ◌*◌, ◌/◌, ◌%◌, ◌^◌, Bool, true, ◌&&◌, not, List, [], ◌∷◌, ◌++◌, Option, None, Some, ℤ, ◌==◌, if◌then◌else◌}
 use Rattle.std.specs.List.{list_any}
 use Rattle.isa_model.specs.declared.instr.Instr.{Instr}
 use Rattle.isa_model.specs.declared.instr.Instr.TheVariants.{Lui, Auipc, Jal, Jalr, Branch, Load, Store, AluImm, AluReg, Fence, Ecall, Ebreak, Mret, Csr, CsrImm}
@@ -10,7 +10,7 @@ use Rattle.isa_model.specs.declared.instr.LoadKind.TheVariants as loads
 use Rattle.isa_model.specs.declared.instr.StoreKind.{StoreKind}
 use Rattle.isa_model.specs.declared.instr.StoreKind.TheVariants as stores
 use Rattle.isa_model.specs.declared.instr.CsrOp.{CsrOp}
-use Rattle.isa_model.specs.declared.instr.CsrOp.TheVariants.{Rw, Rs, Rc}
+use Rattle.isa_model.specs.declared.instr.CsrOp.TheVariants.{Rw}
 use Rattle.isa_model.specs.declared.latch.Latch.{Latch}
 use Rattle.isa_model.specs.declared.latch.Latch.TheVariants as latches
 use Rattle.isa_model.specs.Bits.{low_word, two_complement, word_address}

@@ -145,11 +145,6 @@ instr_in rows word = option_map (λ row. row.means word) (find (is_fit word) row
 abbrev pub instr_of : ℕ → Option Instr
 instr_of word = option_and_then (λ g. instr_in g.1 word) (find (λ g. g.0 == bits 0 7 word) groups)
 
--- the rows of an opcode are the relation for words of this opcode
-abbrev pub IsExactly : ℕ → List Row → Type 0
-IsExactly opcode rows = (word : ℕ) (instr : Instr) → word < 2 ^ 32 → bits 0 7 word ≡ opcode →
-    (instr_in rows word ≡ Some instr) ↔ Spells word instr
-
 -- The table has an instruction for a word exactly where the word spells it. So a word spells at most one instruction.
 abbrev pub TableIsEncoding : Type 0
 TableIsEncoding = (word : ℕ) (instr : Instr) → word < 2 ^ 32 → (instr_of word ≡ Some instr) ↔ Spells word instr

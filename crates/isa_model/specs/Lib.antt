@@ -8,3 +8,4 @@ pub mod TaskPlaces
 pub mod Alone
 pub mod AloneValue
 pub mod Control
+pub mod Laws

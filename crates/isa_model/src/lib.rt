@@ -3,6 +3,7 @@
 #![tactic(auto)]
 
 pub mod control;
+pub mod encoding_laws;
 pub mod ends;
 pub mod instr;
 pub mod latch;
@@ -18,3 +19,6 @@ pub use latch::Latch;
 pub use reg_no::RegNo;
 pub use task::Task;
 pub use words::Words;
+
+#[cfg(test)]
+mod tests;

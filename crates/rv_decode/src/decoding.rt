@@ -2,7 +2,7 @@
 
 ghost use Rattle.std.specs.Prelude.{◌≡◌, IfSome};
 ghost use Rattle.isa_model.specs.Bits.{bits};
-ghost use Rattle.isa_model.specs.Encoding.{IsInstr};
+ghost use Rattle.isa_model.specs.Encoding.{IsInstr, word_of};
 ghost use Rattle.isa_model.specs.InstrTable.{instr_of, instr_in, rd_field, rs1_field, jalr_rows, branch_rows, load_rows, store_rows, alu_imm_rows, alu_reg_rows, fence_rows, system_rows};
 
 use crate::fields::{b_immediate, bits, i_immediate, j_immediate, register, s_immediate};
@@ -12,6 +12,14 @@ use isa_model::{Alu, Cmp, CsrOp, Instr, LoadKind, StoreKind};
 pub fn decode(word: u32) -> Option<Instr>
     ensures table { result ≡ instr_of word }
     ensures valid { IfSome result IsInstr }
+    ensures back { IfSome result (λ instr. word_of instr ≡ word) }
+{
+    by_opcode(word)
+}
+
+/// The instruction of a word, by the fields of its opcode.
+fn by_opcode(word: u32) -> Option<Instr>
+    ensures table { result ≡ instr_of word }
 {
     match bits(word, 0, 7) {
         0x37 => Some(Instr::Lui {
@@ -41,7 +49,6 @@ pub fn decode(word: u32) -> Option<Instr>
 /// The instruction of a word of the opcode JALR.
 fn indirect_jump(word: u32) -> Option<Instr>
     ensures rows { result ≡ instr_in jalr_rows word }
-    ensures valid { IfSome result IsInstr }
 {
     if bits(word, 12, 3) == 0 {
         Some(Instr::Jalr {
@@ -57,7 +64,6 @@ fn indirect_jump(word: u32) -> Option<Instr>
 /// The instruction of a word of the opcode BRANCH.
 fn branch(word: u32) -> Option<Instr>
     ensures rows { result ≡ instr_in branch_rows word }
-    ensures valid { IfSome result IsInstr }
 {
     let op = match bits(word, 12, 3) {
         0 => Cmp::Beq,
@@ -79,7 +85,6 @@ fn branch(word: u32) -> Option<Instr>
 /// The instruction of a word of the opcode LOAD.
 fn load(word: u32) -> Option<Instr>
     ensures rows { result ≡ instr_in load_rows word }
-    ensures valid { IfSome result IsInstr }
 {
     let kind = match bits(word, 12, 3) {
         0 => LoadKind::B,
@@ -100,7 +105,6 @@ fn load(word: u32) -> Option<Instr>
 /// The instruction of a word of the opcode STORE.
 fn store(word: u32) -> Option<Instr>
     ensures rows { result ≡ instr_in store_rows word }
-    ensures valid { IfSome result IsInstr }
 {
     let kind = match bits(word, 12, 3) {
         0 => StoreKind::B,
@@ -120,7 +124,6 @@ fn store(word: u32) -> Option<Instr>
 /// the operation.
 fn alu_immediate(word: u32) -> Option<Instr>
     ensures rows { result ≡ instr_in alu_imm_rows word }
-    ensures valid { IfSome result IsInstr }
 {
     let amount = bits(word, 20, 5) as i32;
     let (op, imm) = match (bits(word, 12, 3), bits(word, 25, 7)) {
@@ -146,7 +149,6 @@ fn alu_immediate(word: u32) -> Option<Instr>
 /// The instruction of a word of the opcode OP.
 fn alu_register(word: u32) -> Option<Instr>
     ensures rows { result ≡ instr_in alu_reg_rows word }
-    ensures valid { IfSome result IsInstr }
 {
     let op = match (bits(word, 12, 3), bits(word, 25, 7)) {
         (0, 0) => Alu::Add,
@@ -183,7 +185,6 @@ fn fence(word: u32) -> Option<Instr>
 /// The instruction of a word of the opcode SYSTEM.
 fn system(word: u32) -> Option<Instr>
     ensures rows { result ≡ instr_in system_rows word }
-    ensures valid { IfSome result IsInstr }
 {
     match bits(word, 12, 3) {
         0 => without_fields(word),
@@ -201,7 +202,6 @@ fn system(word: u32) -> Option<Instr>
 fn without_fields(word: u32) -> Option<Instr>
     requires funct3 { bits 12 3 word ≡ 0 }
     ensures rows { result ≡ instr_in system_rows word }
-    ensures valid { IfSome result IsInstr }
 {
     if bits(word, 7, 13) != 0 {
         return None;
@@ -217,7 +217,6 @@ fn without_fields(word: u32) -> Option<Instr>
 /// A CSR instruction on a register.
 fn csr_register(word: u32, op: CsrOp) -> Instr
     ensures value { result ≡ Instr.Csr op (rd_field word) (rs1_field word) (bits 20 12 word) }
-    ensures valid { IsInstr result }
 {
     Instr::Csr {
         op,
@@ -230,7 +229,6 @@ fn csr_register(word: u32, op: CsrOp) -> Instr
 /// A CSR instruction on an immediate.
 fn csr_immediate(word: u32, op: CsrOp) -> Instr
     ensures value { result ≡ Instr.CsrImm op (rd_field word) (bits 15 5 word) (bits 20 12 word) }
-    ensures valid { IsInstr result }
 {
     Instr::CsrImm {
         op,

@@ -56,10 +56,8 @@ pub fn b_immediate(word: u32) -> i32
     ensures value { result ≡ b_immediate word }
 {
     let high = 0x1000 * bits(word, 31, 1) + 0x800 * bits(word, 7, 1);
-    signed(
-        high + 0x20 * bits(word, 25, 6) + 2 * bits(word, 8, 4),
-        0x1000,
-    )
+    let low = 0x20 * bits(word, 25, 6) + 2 * bits(word, 8, 4);
+    signed(high + low, 0x1000)
 }
 
 /// The offset of the J format.
@@ -67,8 +65,6 @@ pub fn j_immediate(word: u32) -> i32
     ensures value { result ≡ j_immediate word }
 {
     let high = 0x10_0000 * bits(word, 31, 1) + 0x1000 * bits(word, 12, 8);
-    signed(
-        high + 0x800 * bits(word, 20, 1) + 2 * bits(word, 21, 10),
-        0x10_0000,
-    )
+    let low = 0x800 * bits(word, 20, 1) + 2 * bits(word, 21, 10);
+    signed(high + low, 0x10_0000)
 }

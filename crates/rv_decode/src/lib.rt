@@ -4,7 +4,13 @@
 #![tactic(auto)]
 
 mod decoding;
+mod encoding;
 mod fields;
+mod formats;
 
 pub use decoding::decode;
+pub use encoding::encode;
 pub use isa_model::{Alu, Cmp, CsrOp, Instr, LoadKind, RegNo, StoreKind};
+
+#[cfg(test)]
+mod tests;

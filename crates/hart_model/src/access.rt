@@ -1,0 +1,9 @@
+//! Accesses of memory.
+
+/// What an access does (privileged manual, "Physical Memory Protection").
+#[derive(Clone, Copy, Debug, PartialEq, Eq)]
+pub enum Access {
+    Read,
+    Write,
+    Fetch,
+}

@@ -1,0 +1,17 @@
+//! One hart: the values that its definitions speak of. `specs/` has its storage, how tags follow a write, why a write is
+//! explained, physical memory protection, control and status registers, and traps.
+#![tactic(auto)]
+
+pub mod access;
+pub mod laws;
+pub mod place;
+pub mod probe;
+pub mod region;
+pub mod tag;
+pub mod why_laws;
+
+pub use access::Access;
+pub use place::Place;
+pub use probe::{Probe, Side, Why};
+pub use region::{AddressMatching, Region};
+pub use tag::{Cell, Mode, Tag};

@@ -1,0 +1,16 @@
+-- The piece is the next bytes, and only at the end it is empty.
+use Rattle.std.proofs.Common.{ap, arith, ◌∙◌, sym, ◌≡◌, ◌+◌, ◌-◌, ◌≤◌, take, drop, length-append, length-drop, length-take, length}
+use Rattle.std.proofs.Math.ListN.{drop_of_length-le}
+use Rattle.io_edge.proofs.Fronts.{next_bytes}
+use Rattle.io_edge.proofs.memory.MemSourceSource.read.Goals as goal
+
+pub returns-clause-bytes : goal.returns-clause-bytes
+returns-clause-bytes c =
+    let s = c.self.inside in
+    let n = c.min-count.result in
+    let piece : c.copy_from_slice.new.self ≡ take (s.at + n - s.at) (drop s.at s.bytes.items) =
+    c.copy_from_slice.ensures.after ∙ ap (λ l. take (s.at + n - s.at) (drop s.at l)) c.deref-2.ensures.value in
+    let within : s.at + n ≤ length s.bytes.items = omega arith in (
+      ap (λ v. v.left) (sym c.self.view_is) ∙ next_bytes s.bytes.items (drop n c.args.buf.now) _ s.at n piece within,
+      λ none room. drop_of_length-le s.bytes.items (omega (arith, length-append c.copy_from_slice.new.self (drop n c.args.buf.now), ap length piece, length-take (s.at + n - s.at) (drop s.at s.bytes.items), length-drop s.at s.bytes.items, length-drop n c.args.buf.now)),
+    )

@@ -1,0 +1,12 @@
+-- A source over a reader of std and a sink over a writer of std, as contracts see them.
+use Rattle.std.specs.Prelude.{ℕ, List, Option}
+
+-- The bytes that the reader has left, where it tells them, and how many faults were counted.
+pub record CountedReader : Type 0 where
+  pub left : Option (List ℕ)
+  pub faults : ℕ
+
+-- The bytes that the writer holds, where it tells them, and how many faults were counted.
+pub record CountedWriter : Type 0 where
+  pub held : Option (List ℕ)
+  pub faults : ℕ

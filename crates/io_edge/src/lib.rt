@@ -1,0 +1,17 @@
+//! The edge between the program and the outside: bytes come from a [`Source`] and go to a [`Sink`],
+//! and a [`Gate`] is called before each queue action of a hart. Sources and sinks count their
+//! faults, so that a caller can show that a fault was theirs.
+#![tactic(auto)]
+
+pub mod memory;
+pub mod std_edge;
+pub mod traits;
+pub mod whole;
+
+pub use memory::{MemSink, MemSource};
+pub use std_edge::{StdSink, StdSource};
+pub use traits::{Failed, FreeGate, Gate, Sink, Source};
+pub use whole::{ReadEnd, WriteEnd, read_all, write_all};
+
+#[cfg(test)]
+mod tests;

@@ -1,0 +1,14 @@
+-- The words of the command line, and the command that they are.
+use Rattle.std.specs.Prelude.{◌≡◌, ℕ, List, [], ◌∷◌, Option, Some, None, codes, if◌then◌else◌}
+use Rattle.std.specs.Str.{bytes_eq}
+use Rattle.kernel_cli.specs.declared.command.Command.{Command}
+use Rattle.kernel_cli.specs.declared.command.Command.TheVariants.{Alone}
+
+-- The words spell this command. Each command has one spelling.
+abbrev pub SpellsCommand : List (List ℕ) → Command → Type 0
+SpellsCommand words Alone = words ≡ codes "alone" ∷ []
+
+-- the command of the words, if they spell one
+abbrev pub command_of : List (List ℕ) → Option Command
+command_of (word ∷ []) = if bytes_eq word (codes "alone") then Some Alone else None
+command_of _ = None

@@ -1,0 +1,6 @@
+pub mod Commands
+pub mod Statuses
+pub mod AloneTasks
+pub mod Answer
+pub mod Outcome
+pub mod TopCall

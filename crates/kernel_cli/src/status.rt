@@ -1,0 +1,35 @@
+//! How the program ends.
+
+ghost use Rattle.std.specs.Prelude.{◌≡◌};
+ghost use Rattle.kernel_cli.specs.Statuses.{number_of};
+
+/// How a call of the program ended.
+#[derive(Clone, Copy, Debug, PartialEq, Eq)]
+pub enum Status {
+    /// The input was read to its end, and the text of the command is written.
+    Fine,
+    /// The words are no command.
+    BadWords,
+    /// The input is too large, or can't be read as a bundle.
+    BadInput,
+    /// The source counted a fault; nothing is written.
+    ReadFault,
+    /// The sink counted a fault; what is written is a front of the text.
+    WriteFault,
+    /// Want of memory; nothing is written.
+    Memory,
+}
+
+/// The number that the program ends with.
+pub fn status_number(status: Status) -> u8
+    ensures number { result ≡ number_of status }
+{
+    match status {
+        Status::Fine => 0,
+        Status::BadWords => 2,
+        Status::BadInput => 3,
+        Status::ReadFault => 4,
+        Status::WriteFault => 5,
+        Status::Memory => 6,
+    }
+}

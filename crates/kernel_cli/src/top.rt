@@ -1,0 +1,86 @@
+//! The top call.
+
+ghost use Rattle.std.specs.Prelude.{Some, map, string_bytes};
+ghost use Rattle.kernel_cli.specs.Commands.{command_of};
+ghost use Rattle.kernel_cli.specs.Outcome.{status_of};
+ghost use Rattle.kernel_cli.specs.TopCall.{WritesOrFails, IsAnswered};
+ghost use Rattle.kernel_cli.specs.declared.command.Command.TheVariants as commands;
+
+use crate::answer::{Made, answer_alone, status_of};
+use crate::command::{Command, read_words};
+use crate::status::Status;
+use io_edge::{Gate, ReadEnd, Sink, Source, read_all, write_all};
+use std::alloc::Global;
+use std::sync::Wait;
+use std::thread::Threads;
+
+/// How many bytes of input are read as a bundle at most.
+const INPUT_LIMIT: usize = 4_194_304;
+
+/// Writes a text and ends with its status, or with a write fault.
+fn put<K: Sink>(sink: &mut K, text: &[u8], status: Status) -> Status
+    ensures written { WritesOrFails status (K.held sink.old) (K.held sink.new) (K.faults sink.old) (K.faults sink.new) text.now result }
+{
+    match write_all(sink, text) {
+        Ok(()) => status,
+        Err(_) => Status::WriteFault,
+    }
+}
+
+/// Writes an answer and ends with its status, or with a write fault.
+fn put_answer<K: Sink>(sink: &mut K, made: &Made) -> Status
+    ensures written { WritesOrFails (status_of made.now.outcome) (K.held sink.old) (K.held sink.new) (K.faults sink.old) (K.faults sink.new) made.now.text.items result }
+{
+    put(sink, made.text.as_slice(), status_of(made.outcome))
+}
+
+/// Runs each task of the bundle that the source gives by itself.
+fn alone<S: Source, K: Sink>(alloc: Global, src: &mut S, sink: &mut K) -> Status
+    ensures answered { IsAnswered S.left S.faults K.held K.faults (Some commands.Alone) src.old src.new sink.old sink.new result }
+{
+    match read_all(alloc, src, INPUT_LIMIT) {
+        Err(ReadEnd::ReadFault) => Status::ReadFault,
+        Err(ReadEnd::Memory) => Status::Memory,
+        Err(ReadEnd::TooLarge) => put(sink, b"too large\n", Status::BadInput),
+        Ok(bytes) => match answer_alone(alloc, bytes.as_slice()) {
+            Err(_) => Status::Memory,
+            Ok(made) => put_answer(sink, &made),
+        },
+    }
+}
+
+/// Does the command that the words spell, on one thread: takes its input from the source and writes its
+/// text to the sink. It always returns.
+///
+/// The status and the text are those of one function of the command and the input, unless the source
+/// or the sink counts a fault or memory runs out; the definition of `IsAnswered` says for each
+/// status what it promises.
+pub fn one_thread<S: Source, K: Sink>(
+    alloc: Global,
+    words: &[String],
+    src: &mut S,
+    sink: &mut K,
+) -> Status
+    ensures answered { IsAnswered S.left S.faults K.held K.faults (command_of (map string_bytes words.now)) src.old src.new sink.old sink.new result }
+{
+    match read_words(words) {
+        None => put(sink, b"bad words\n", Status::BadWords),
+        Some(Command::Alone) => alone(alloc, src, sink),
+    }
+}
+
+/// The whole program, over the objects that it is handed: does the command that the words spell, as
+/// [`one_thread`] does. The runtime and the gate serve commands on several threads, of which
+/// there are none so far.
+pub fn msktask<R: Threads + Wait + Sync, S: Source, K: Sink, G: Gate>(
+    _rt: &R,
+    alloc: Global,
+    words: &[String],
+    src: &mut S,
+    sink: &mut K,
+    _gate: &G,
+) -> Status
+    ensures answered { IsAnswered S.left S.faults K.held K.faults (command_of (map string_bytes words.now)) src.old src.new sink.old sink.new result }
+{
+    one_thread(alloc, words, src, sink)
+}

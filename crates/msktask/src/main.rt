@@ -1,0 +1,48 @@
+//! The program: it makes the real source, sink and gate, and calls the top call.
+#![tactic(auto)]
+
+use io_edge::{FreeGate, StdSink, StdSource};
+use kernel_cli::{Status, msktask, status_number};
+use std::io::ErrorKind;
+use std::process::ExitCode;
+use std::{env, io};
+
+/// The commands, one a line.
+const USAGE: &str = "\
+usage: msktask COMMAND
+  alone   runs each task of the bundle on standard input by itself
+";
+
+/// The status of arguments that can't be had: want of memory, or words that are no text.
+fn argument_status(error: &io::Error) -> Status {
+    match error.kind() {
+        ErrorKind::OutOfMemory => Status::Memory,
+        _ => Status::BadWords,
+    }
+}
+
+fn main(rt: HostRuntime) -> ExitCode {
+    let mut args = match env::args(&rt) {
+        Ok(args) => args,
+        Err(error) => return ExitCode::from(status_number(argument_status(&error))),
+    };
+    let _program = args.next();
+    let words: Vec<String> = match args.collect(rt.alloc()) {
+        Ok(words) => words,
+        Err(_) => return ExitCode::from(status_number(Status::Memory)),
+    };
+    let mut src = StdSource::new(rt.stdin());
+    let mut sink = StdSink::new(rt.stdout());
+    let status = msktask(
+        &rt,
+        rt.alloc(),
+        words.as_slice(),
+        &mut src,
+        &mut sink,
+        &FreeGate,
+    );
+    if status == Status::BadWords {
+        let _ = eprint!(rt; "{USAGE}");
+    }
+    ExitCode::from(status_number(status))
+}

@@ -1,0 +1,9 @@
+pub mod Entries
+pub mod Accounts
+pub mod Places
+pub mod Line
+pub mod Fits
+pub mod TicketSteps
+pub mod TurnEnds
+pub mod SeatChanges
+pub mod WholeOrder
