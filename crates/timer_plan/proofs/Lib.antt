@@ -1,0 +1,4 @@
+pub mod Runs
+pub mod Spelling
+pub mod Decides
+pub mod Paces
