@@ -108,6 +108,7 @@ fn ticks_of_a_plan(rt: HostRuntime) -> Result<(), Fail> {
         runs(&rt, &mut pace, quantum);
     }
     pace.took();
+    assert!(rt; !pace.due());
     pace.ran();
     pace.took();
     runs(&rt, &mut pace, 4);
