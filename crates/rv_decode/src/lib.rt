@@ -7,10 +7,13 @@ mod decoding;
 mod encoding;
 mod fields;
 mod formats;
+pub mod names;
+mod text;
 
 pub use decoding::decode;
 pub use encoding::encode;
 pub use isa_model::{Alu, Cmp, CsrOp, Instr, LoadKind, RegNo, StoreKind};
+pub use text::{instr_text, word_text};
 
 #[cfg(test)]
 mod tests;

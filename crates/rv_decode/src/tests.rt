@@ -2,8 +2,9 @@
 
 ghost use Rattle.std.specs.Prelude.{◌<◌};
 
-use super::{Alu, Cmp, CsrOp, Instr, LoadKind, RegNo, StoreKind, decode, encode};
+use super::{Alu, Cmp, CsrOp, Instr, LoadKind, RegNo, StoreKind, decode, encode, instr_text};
 use std::process::Abort;
+use std::test::Fail;
 
 fn x(number: u8) -> RegNo
     requires number { number < 32 }
@@ -169,4 +170,107 @@ fn no_instructions(rt: HostRuntime) {
     ] {
         assert_eq!(&rt; decode(word), None, "at {word:#010x}");
     }
+}
+
+/// A word and its text.
+#[derive(Clone, Copy)]
+struct Known<'a> {
+    word: u32,
+    text: &'a [u8],
+}
+
+const TEXTS: [Known; 20] = [
+    Known {
+        word: 0x0010_80b7,
+        text: b"lui x1,264",
+    },
+    Known {
+        word: 0xffff_f097,
+        text: b"auipc x1,1048575",
+    },
+    Known {
+        word: 0x0080_006f,
+        text: b"jal x0,.+8",
+    },
+    Known {
+        word: 0x8000_00ef,
+        text: b"jal x1,.-1048576",
+    },
+    Known {
+        word: 0x0060_8167,
+        text: b"jalr x2,6(x1)",
+    },
+    Known {
+        word: 0xfe00_0ee3,
+        text: b"beq x0,x0,.-4",
+    },
+    Known {
+        word: 0x7e20_ffe3,
+        text: b"bgeu x1,x2,.+4094",
+    },
+    Known {
+        word: 0x0020_a003,
+        text: b"lw x0,2(x1)",
+    },
+    Known {
+        word: 0x8001_0083,
+        text: b"lb x1,-2048(x2)",
+    },
+    Known {
+        word: 0x0000_a223,
+        text: b"sw x0,4(x1)",
+    },
+    Known {
+        word: 0x02a0_0513,
+        text: b"addi x10,x0,42",
+    },
+    Known {
+        word: 0xfff1_3093,
+        text: b"sltiu x1,x2,-1",
+    },
+    Known {
+        word: 0x4051_5093,
+        text: b"srai x1,x2,5",
+    },
+    Known {
+        word: 0x4020_81b3,
+        text: b"sub x3,x1,x2",
+    },
+    Known {
+        word: 0x0ff0_000f,
+        text: b"fence",
+    },
+    Known {
+        word: 0x8330_000f,
+        text: b".word 0x8330000f",
+    },
+    Known {
+        word: 0x3020_0073,
+        text: b"mret",
+    },
+    Known {
+        word: 0x3402_92f3,
+        text: b"csrrw x5,0x340,x5",
+    },
+    Known {
+        word: 0xf14f_f073,
+        text: b"csrrci x0,0xf14,31",
+    },
+    Known {
+        word: 0x00a0_6073,
+        text: b"csrrsi x0,0x00a,0",
+    },
+];
+
+#[test]
+fn known_texts(rt: HostRuntime) -> Result<(), Fail> {
+    let rt = &rt;
+    for known in TEXTS {
+        let instr = decode(known.word).expect(rt, "an instruction");
+        let mut out = Vec::from_slice(rt.alloc(), b": ")?;
+        instr_text(instr, &mut out)?;
+        assert_eq!(rt; &out[2..], known.text, "of {:08x}", known.word);
+        assert_eq!(rt; &out[..2], b": ".as_slice());
+    }
+    Ok(())
 }

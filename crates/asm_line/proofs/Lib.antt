@@ -1,0 +1,7 @@
+mod Examples
+pub mod Cut
+pub mod Trim
+pub mod Digits
+pub mod Colons
+pub mod Texts
+pub mod Range

@@ -1,0 +1,17 @@
+-- A negative distance, up to the cap.
+use Rattle.std.proofs.Common.{◌≡◌, ◌∙◌, ap, sym, refl, true, false, codes, drop, option_map}
+use Rattle.std.proofs.lemmas.List.{take_rest}
+use Rattle.asm_line.specs.Numbers.{begins, digits_value, negative, distance_of}
+use Rattle.asm_line.specs.Capped.{capped, capped_number}
+use Rattle.asm_line.proofs.Digits.{capped-negatives}
+use Rattle.asm_line.proofs.numbers.distance.Goals as goal
+
+pub returns-then-starts_with-2-clause-value : goal.returns-then-starts_with-2-clause-value
+returns-then-starts_with-2-clause-value c =
+    let text = c.args.text.now in
+    let plus : begins (codes ".+") text ≡ false = sym c.if-starts_with.ensures.value in
+    let minus : begins (codes ".-") text ≡ true = sym c.if-starts_with-2.ensures.value in
+    let is : distance_of text ≡ option_map negative (digits_value 10 (drop 2 text)) = rw (plus, minus) refl in
+    let digits = rw take_rest at c.digits_value-then-starts_with-2.ensures.value in
+    c.negative.ensures.value ∙ ap (option_map negative) digits ∙ sym (capped-negatives (digits_value 10 (drop 2 text)))
+    ∙ ap (option_map capped_number) (sym is)

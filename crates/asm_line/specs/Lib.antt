@@ -1,0 +1,9 @@
+pub mod Pieces
+pub mod Numbers
+pub mod Capped
+pub mod Names
+pub mod Named
+pub mod Fields
+pub mod Operands
+pub mod Table
+pub mod LineForm

@@ -1,0 +1,5 @@
+-- A digit less each time.
+use Rattle.rv_decode.proofs.text.+add_hex.Given as goal
+
+abbrev pub decreases-add_hex : goal.decreases-add_hex
+decreases-add_hex l = l.count
