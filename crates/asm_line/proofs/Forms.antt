@@ -1,6 +1,5 @@
 -- The text of each instruction is read as its word: one form after another.
-use Rattle.std.proofs.Common.{◌≡◌, ℕ, zero, suc, ◌+◌, ◌<◌, ◌≤◌, ◌^◌, Bool, true, false, ◌&&◌, ◌||◌, cond, eqb, ltb, List, [], ◌∷◌, ◌++◌, length, codes, Option, Some, Result, Ok, Err, ℤ, pos, negsuc, refl, ap, ◌∙◌, arith, lit<, lit≤, eqb-true, sym}
-use Rattle.std.specs.Fmt.{decimal, signed_decimal}
+use Rattle.std.proofs.Common.{◌≡◌, ℕ, ◌<◌, ◌^◌, Bool, true, false, ◌&&◌, ◌||◌, cond, eqb, ltb, List, [], ◌∷◌, length, codes, Some, Ok, Err, ℤ, pos, negsuc, refl, ap, ◌∙◌, arith, lit<, eqb-true, sym}
 use Rattle.std.specs.List.{list_any}
 use Rattle.std.proofs.lemmas.Bool.{or_parts, ltb-true, cond_both, and_from}
 use Rattle.isa_model.specs.declared.instr.Cmp.{Cmp}
@@ -17,9 +16,8 @@ use Rattle.isa_model.specs.declared.instr.Instr.{Instr}
 use Rattle.isa_model.specs.declared.instr.Instr.TheVariants as instrs
 use Rattle.isa_model.specs.Bits.{IsInBits}
 use Rattle.isa_model.specs.Encoding.{IsInstr, IsShiftAmount, IsImmediate, word_of}
-use Rattle.rv_decode.specs.Text.{text_of_instr, word_text, instr_line, register_text, target_text, address_text, csr_text, hex_digits}
+use Rattle.rv_decode.specs.Text.{text_of_instr, word_text, instr_line, register_text}
 use Rattle.asm_line.specs.declared.line.AsmKind.TheVariants.{Operands}
-use Rattle.asm_line.specs.declared.line.Item.{Item}
 use Rattle.asm_line.specs.declared.line.Item.TheVariants.{One}
 use Rattle.asm_line.specs.declared.line.Line.{Line}
 use Rattle.asm_line.specs.declared.pieces.Separator.TheVariants.{Hash, Colon, Comma, Blank}
@@ -36,7 +34,6 @@ use Rattle.asm_line.specs.Fields.{no_fields}
 use Rattle.asm_line.specs.Operands.{◌>>=◌, with_operands, has_shape, have_shapes}
 use Rattle.asm_line.specs.Table.{row_of, mnemonic_of, alu_of_immediate, alu_of_shift}
 use Rattle.asm_line.specs.LineForm.{line_of, item_of_word}
-use Rattle.asm_line.proofs.Written.{in_32}
 use Rattle.asm_line.proofs.ReadBack.{IsPlain, ArePlain, line-words}
 use Rattle.asm_line.proofs.Operands.{Fills, rd-fills, rs1-fills, rs2-fills, imm12-fills, imm20-fills, shamt-fills, uimm-fills, csr-fills, jump-fills, branch-fills, number-fills, address-fills}
 

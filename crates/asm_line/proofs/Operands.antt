@@ -1,5 +1,5 @@
 -- The texts of operands are plain, and fill the fields that they were written of.
-use Rattle.std.proofs.Common.{◌≡◌, ℕ, zero, suc, ◌+◌, ◌-◌, ◌<◌, ◌≤◌, ◌^◌, Bool, true, false, ◌&&◌, ◌||◌, cond, List, [], ◌∷◌, ◌++◌, length, take, drop, codes, nat_eq, Option, Some, None, Result, Ok, Err, ℤ, pos, negsuc, refl, ap, sym, ◌∙◌, arith, length-append, append_assoc, take_at, drop_at, lit<, lit≤}
+use Rattle.std.proofs.Common.{◌≡◌, ℕ, suc, ◌+◌, ◌-◌, ◌<◌, ◌^◌, Bool, true, false, List, [], ◌∷◌, ◌++◌, length, take, codes, nat_eq, Result, Ok, ℤ, pos, negsuc, refl, ap, sym, ◌∙◌, arith, length-append, append_assoc, take_at, drop_at, lit<, lit≤}
 use Rattle.std.specs.Fmt.{decimal, signed_decimal}
 use Rattle.std.specs.Cmp.Lexicographic.{pointwise}
 use Rattle.std.specs.List.{list_any, ends_with}
@@ -15,7 +15,7 @@ use Rattle.asm_line.specs.declared.fields.Operand.{Operand}
 use Rattle.asm_line.specs.declared.fields.Operand.TheVariants.{Rd, Rs1, Rs2, Imm12, Imm20, Shamt, Uimm, Address, Csr, JumpTarget, BranchTarget, Number}
 use Rattle.asm_line.specs.declared.fields.Fields.{Fields}
 use Rattle.asm_line.specs.declared.fields.Target.TheVariants.{Distance}
-use Rattle.asm_line.specs.Pieces.{is_separator, is_address, offset_part, register_part, after}
+use Rattle.asm_line.specs.Pieces.{is_separator, is_address, offset_part, register_part}
 use Rattle.asm_line.specs.Operands.{◌>>=◌, register, number_in, unsigned_in, word_in, csr, target, with_operand, has_shape}
 use Rattle.asm_line.proofs.Parts.{Lacks, lacks-append, before_first-at, after_first-at}
 use Rattle.asm_line.proofs.Written.{decimal-lacks, hex-lacks, in_32, register-text, number_of-decimal, unsigned_in-is, imm12-text, csr-text, target-text, number_of-hex, word_in-is}

@@ -1,6 +1,6 @@
 -- Texts that some byte parts, and texts that it doesn't stand in.
-use Rattle.std.proofs.Common.{◌≡◌, ℕ, zero, suc, ◌+◌, ◌<◌, ◌≤◌, Bool, true, false, ◌||◌, cond, eqb, List, [], ◌∷◌, ◌++◌, length, take, drop, reverse, map, refl, ap, sym, ◌∙◌, arith, ne_eqb, length-append, append_assoc, append-nil, take_at, drop_at, drop-drop, take_all}
-use Rattle.std.specs.List.{slice_split, onto_first, position_or_len, before_first, after_first, list_any, join_with_byte}
+use Rattle.std.proofs.Common.{◌≡◌, ℕ, suc, ◌+◌, ◌<◌, Bool, true, false, List, [], ◌∷◌, ◌++◌, length, drop, reverse, refl, ap, sym, ◌∙◌, arith, append_assoc, append-nil, take_at, drop_at, drop-drop, take_all}
+use Rattle.std.specs.List.{slice_split, onto_first, position_or_len, before_first, after_first, list_any}
 use Rattle.std.proofs.lemmas.Bool.{or_parts, or_from}
 use Rattle.std.proofs.lemmas.List.{reverse-append, reverse-reverse, length-reverse}
 use Rattle.std.proofs.lemmas.List.Folds.{list_any-append}

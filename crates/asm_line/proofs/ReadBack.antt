@@ -1,13 +1,10 @@
 -- The text that is written of an instruction is read as the instruction.
-use Rattle.std.proofs.Common.{◌≡◌, ℕ, zero, suc, ◌+◌, ◌-◌, ◌<◌, ◌≤◌, ◌^◌, Bool, true, false, ◌&&◌, ◌||◌, cond, eqb, List, [], ◌∷◌, ◌++◌, length, take, drop, map, codes, Option, Some, None, Result, Ok, Err, ℤ, pos, negsuc, refl, ap, sym, ◌∙◌, arith, ne_eqb, length-append, append_assoc}
-use Rattle.std.specs.Fmt.{decimal, signed_decimal}
-use Rattle.std.specs.List.{slice_split, join_with_byte}
+use Rattle.std.proofs.Common.{◌≡◌, ℕ, ◌<◌, false, ◌||◌, cond, List, [], ◌∷◌, ◌++◌, length, map, Ok, refl, ap, ◌∙◌, arith, ne_eqb, length-append}
+use Rattle.std.specs.List.{join_with_byte}
 use Rattle.rv_decode.specs.Text.{instr_line}
 use Rattle.asm_line.specs.declared.pieces.Separator.{Separator}
-use Rattle.asm_line.specs.declared.pieces.Separator.TheVariants.{Hash, Colon, Comma, Opening, Blank}
-use Rattle.asm_line.specs.declared.line.AsmKind.{AsmKind}
-use Rattle.asm_line.specs.declared.line.Item.{Item}
-use Rattle.asm_line.specs.declared.line.Item.TheVariants.{Empty, One}
+use Rattle.asm_line.specs.declared.pieces.Separator.TheVariants.{Hash, Colon, Comma, Blank}
+use Rattle.asm_line.specs.declared.line.Item.TheVariants.{Empty}
 use Rattle.asm_line.specs.declared.line.Line.{Line}
 use Rattle.asm_line.specs.Pieces.{is_separator, pieces, before, after, trim, operands_of}
 use Rattle.asm_line.specs.Table.{mnemonic_of}

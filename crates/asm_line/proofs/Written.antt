@@ -1,5 +1,5 @@
 -- Numbers and names that were written are read as what they were.
-use Rattle.std.proofs.Common.{◌≡◌, ℕ, zero, suc, ◌+◌, ◌-◌, ◌*◌, ◌/◌, ◌%◌, ◌^◌, ◌<◌, ◌≤◌, Bool, true, false, not, ◌&&◌, ◌||◌, cond, eqb, ltb, leb, List, [], ◌∷◌, ◌++◌, length, take, drop, codes, Option, Some, None, option_map, Result, Ok, Err, ℤ, pos, negsuc, refl, ap, sym, ◌∙◌, arith, length-append, pow_mono, lit<, lit≤}
+use Rattle.std.proofs.Common.{◌≡◌, ℕ, zero, suc, ◌+◌, ◌-◌, ◌*◌, ◌/◌, ◌%◌, ◌^◌, ◌<◌, ◌≤◌, Bool, true, false, ◌&&◌, cond, eqb, ltb, leb, List, [], ◌∷◌, ◌++◌, length, drop, codes, Option, Some, None, option_map, Ok, Err, ℤ, pos, negsuc, refl, ap, ◌∙◌, arith, length-append, pow_mono, lit<, lit≤}
 use Rattle.std.proofs.Math.Nat.{pow-suc}
 use Rattle.std.specs.Fmt.{digits, decimal, signed_decimal, digit_glyph}
 use Rattle.std.specs.List.{list_any, list_all}
