@@ -4,3 +4,8 @@ pub mod WhyTells
 pub mod PmpLaws
 mod TryCsrs
 mod TryPmp
+mod SmallTask
+mod TryContext
+mod TryPorts
+mod TryHartState
+mod TryUserStep
