@@ -9,3 +9,5 @@ mod TryContext
 mod TryPorts
 mod TryHartState
 mod TryUserStep
+mod TryMachineStep
+mod TryHartStep

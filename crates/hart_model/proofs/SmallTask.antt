@@ -1,6 +1,8 @@
 -- A small task and harts that hold it, on which the definitions are tried.
 use Rattle.std.proofs.Common.{ℕ, List, [], ◌∷◌, Some}
+use Rattle.isa_model.specs.declared.latch.Latch.{Latch}
 use Rattle.isa_model.specs.declared.task.Task.{Task}
+use Rattle.hart_model.specs.declared.probe.Probe.{Probe}
 use Rattle.hart_model.specs.declared.tag.Mode.TheVariants.{User}
 use Rattle.hart_model.specs.Csrs.{CsrFile, boot_csrs}
 use Rattle.hart_model.specs.Pmp.{task_pmp}
@@ -40,3 +42,8 @@ machine_hart = record (boot_hart 1 0x1000) { held = Some (small_context []) }
 
 abbrev pub empty_hart : HartState
 empty_hart = boot_hart 1 0x1000
+
+-- the latches of entries, in order
+abbrev pub latches_of : List Probe → List Latch
+latches_of [] = []
+latches_of (p ∷ ps) = p.latch ∷ latches_of ps

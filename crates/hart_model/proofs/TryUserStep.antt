@@ -17,7 +17,7 @@ use Rattle.hart_model.specs.Context.{ContextState}
 use Rattle.hart_model.specs.HartState.{HartState, hart_cell, hart_with_cell, tick_of}
 use Rattle.hart_model.specs.StepResult.{did_of, hart_after, probes_of}
 use Rattle.hart_model.specs.UserStep.{user_step}
-use Rattle.hart_model.proofs.SmallTask.{small_body, small_context, user_hart, user_csrs}
+use Rattle.hart_model.proofs.SmallTask.{small_body, small_context, user_hart, user_csrs, latches_of}
 
 -- addi x10,x0,42; addi x17,x0,1; ecall
 abbrev words : List ℕ
@@ -121,10 +121,6 @@ with_registers word x1 x2 = hart_with_cell (hart_with_cell (user_hart (word ∷ 
 record Outcome : Type 0 where
   did : Did
   written : List Latch
-
-abbrev latches_of : List Probe → List Latch
-latches_of [] = []
-latches_of (p ∷ ps) = p.latch ∷ latches_of ps
 
 abbrev outcome : ℕ → ℕ → ℕ → Outcome
 outcome word x1 x2 = record {
