@@ -1,0 +1,2 @@
+mod TryBoard
+mod TryKernelWords
