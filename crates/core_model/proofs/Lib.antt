@@ -1,2 +1,3 @@
 mod TryBoard
 mod TryKernelWords
+mod TryRun
