@@ -1,2 +1,6 @@
 pub mod Plans
 pub mod Events
+pub mod Board
+pub mod Homes
+pub mod KernelText
+pub mod KernelWords

@@ -4,3 +4,10 @@ pub mod WhyTells
 pub mod PmpLaws
 mod TryCsrs
 mod TryPmp
+mod SmallTask
+mod TryContext
+mod TryPorts
+mod TryHartState
+mod TryUserStep
+mod TryMachineStep
+mod TryHartStep

@@ -6,4 +6,12 @@ pub mod Probes
 pub mod Pmp
 pub mod Csrs
 pub mod Traps
+pub mod Context
+pub mod Ports
+pub mod HartState
+pub mod Writes
+pub mod StepResult
+pub mod UserStep
+pub mod MachineStep
+pub mod HartStep
 pub mod Laws

@@ -1,9 +1,13 @@
 -- How tags follow a write (this project's own): in user mode by the step, in machine mode by what flows into the written value.
-use Rattle.std.specs.Prelude.{ℕ, ◌+◌, List, [], ◌∷◌}
+use Rattle.std.specs.Prelude.{ℕ, ◌+◌, Bool, true, false, List, [], ◌∷◌}
 use Rattle.isa_model.specs.declared.latch.Latch.{Latch}
 use Rattle.isa_model.specs.Effect.{Flow, Constant, Moved, Mixed, Operand}
 use Rattle.hart_model.specs.declared.tag.Tag.{Tag}
 use Rattle.hart_model.specs.declared.tag.Tag.TheVariants.{Public, Of, Many}
+
+abbrev pub is_public : Tag → Bool
+is_public Public = true
+is_public tag = false
 
 -- of a value that is computed from several: public where all are, else of many
 abbrev pub mixture_of : List Tag → Tag

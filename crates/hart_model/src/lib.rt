@@ -3,15 +3,19 @@
 #![tactic(auto)]
 
 pub mod access;
+pub mod calls;
 pub mod laws;
 pub mod place;
+pub mod port;
 pub mod probe;
 pub mod region;
 pub mod tag;
 pub mod why_laws;
 
 pub use access::Access;
+pub use calls::{Did, QueueCall};
 pub use place::Place;
+pub use port::Port;
 pub use probe::{Probe, Side, Why};
 pub use region::{AddressMatching, Region};
 pub use tag::{Cell, Mode, Tag};

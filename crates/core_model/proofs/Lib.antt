@@ -1,0 +1,3 @@
+mod TryBoard
+mod TryKernelWords
+mod TryRun
