@@ -2,6 +2,9 @@ pub mod Mixtures
 mod TryWhy
 pub mod WhyTells
 pub mod PmpLaws
+pub mod DecodedRegisters
+pub mod UserEffects
+pub mod EffectShapes
 mod TryCsrs
 mod TryPmp
 mod SmallTask
