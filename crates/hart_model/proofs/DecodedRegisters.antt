@@ -1,5 +1,5 @@
 -- The register numbers of an instruction that the table has for a word are below 32, whatever the word.
-use Rattle.std.proofs.Common.{◌≡◌, ℕ, ◌<◌, ◌==◌, Bool, true, false, List, [], ◌∷◌, Option, Some, None, option_map, option_and_then, find, if◌then◌else◌, refl, subst, arith}
+use Rattle.std.proofs.Common.{◌≡◌, ℕ, ◌<◌, ◌==◌, Bool, true, false, List, [], ◌∷◌, Some, option_map, option_and_then, find, if◌then◌else◌, subst, arith}
 use Rattle.isa_model.specs.declared.instr.Instr.{Instr}
 use Rattle.isa_model.specs.Bits.{bits}
 use Rattle.isa_model.specs.InstrTable.{Row, is_fit, groups, instr_in, instr_of}

@@ -1,6 +1,6 @@
 -- What an instruction in user mode may write, by what follows it: one that goes on writes registers, ports, Res, Load, Store and data
 -- words; one that faults writes ports and Res alone; and a call writes nothing.
-use Rattle.std.proofs.Common.{◌≡◌, ℕ, suc, ◌+◌, ◌*◌, ◌/◌, ◌%◌, ◌^◌, ◌<◌, ◌==◌, Bool, true, false, List, [], ◌∷◌, ◌++◌, Option, Some, None, ℤ, if◌then◌else◌, refl, arith, ◌≢◌}
+use Rattle.std.proofs.Common.{◌≡◌, ℕ, ◌+◌, ◌*◌, ◌/◌, ◌%◌, ◌^◌, ◌<◌, ◌==◌, false, List, [], ◌∷◌, ◌++◌, Option, Some, None, refl, arith, ◌≢◌}
 use Rattle.std.proofs.lemmas.Bool.{cond_both, eqb-true, eqb-false}
 use Rattle.isa_model.specs.declared.task.Task.{Task}
 use Rattle.isa_model.specs.declared.latch.Latch.{Latch}
@@ -11,7 +11,7 @@ use Rattle.isa_model.specs.declared.instr.LoadKind.{LoadKind}
 use Rattle.isa_model.specs.declared.instr.StoreKind.{StoreKind}
 use Rattle.isa_model.specs.Bits.{low_word, word_address, two_complement}
 use Rattle.isa_model.specs.Arithmetic.{alu_of, is_taken, load_size, store_size, load_result}
-use Rattle.isa_model.specs.Effect.{Effect, Write, Flow, Constant, Moved, Mixed, Rs1, Rs2, Operands, Next, Goes, Raises, Calls, Returns, effect_of, address, load_word, store_word, loaded_flow, to, to_reg, result, port_a, ports, jump, does}
+use Rattle.isa_model.specs.Effect.{Effect, Write, Flow, Constant, Moved, Mixed, Rs1, Rs2, Next, Goes, Raises, Calls, Returns, effect_of, address, load_word, store_word, loaded_flow, to, to_reg, result, ports, jump, does}
 use Rattle.isa_model.specs.TaskPlaces.{IsValidTask}
 use Rattle.isa_model.specs.InstrTable.{instr_of}
 use Rattle.isa_model.specs.Alone.{AloneState, code_word_at, is_data_address, data_word_at, operands_of, is_privileged}

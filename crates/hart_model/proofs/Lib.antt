@@ -5,6 +5,8 @@ pub mod PmpLaws
 pub mod DecodedRegisters
 pub mod UserEffects
 pub mod EffectShapes
+pub mod UserWrites
+pub mod UserStepIsAlone
 mod TryCsrs
 mod TryPmp
 mod SmallTask

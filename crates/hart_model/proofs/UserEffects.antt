@@ -1,6 +1,6 @@
 -- The effect of an instruction in user mode is that of the run alone; and what such an effect may write.
-use Rattle.std.proofs.Common.{◌≡◌, ℕ, zero, suc, ◌+◌, ◌-◌, ◌*◌, ◌/◌, ◌%◌, ◌^◌, ◌<◌, ◌≤◌, ◌≢◌, ◌==◌, ◌⊎◌, inl, inr, Bool, true, false, ◌&&◌, ◌||◌, ℤ, List, [], ◌∷◌, ◌++◌, length, Option, Some, None, is_some, if◌then◌else◌, refl, ap, sym, ◌∙◌, subst, arith, nat_le, nat_lt}
-use Rattle.std.proofs.lemmas.Bool.{cond_both, eqb-true, leb-true, ltb-true, and_parts, and_from, le-leb, lt-ltb}
+use Rattle.std.proofs.Common.{◌≡◌, ℕ, ◌+◌, ◌*◌, ◌%◌, ◌<◌, ◌≤◌, ◌==◌, inl, inr, Bool, true, false, ◌||◌, ℤ, List, [], ◌∷◌, ◌++◌, Option, Some, None, is_some, if◌then◌else◌, refl, ap, ◌∙◌, arith}
+use Rattle.std.proofs.lemmas.Bool.{eqb-true, leb-true, ltb-true, and_parts, and_from, le-leb, lt-ltb}
 use Rattle.isa_model.specs.declared.task.Task.{Task}
 use Rattle.isa_model.specs.declared.latch.Latch.{Latch}
 use Rattle.isa_model.specs.declared.latch.Latch.TheVariants as latches
@@ -13,16 +13,16 @@ use Rattle.isa_model.specs.declared.instr.StoreKind.TheVariants as stores
 use Rattle.isa_model.specs.Bits.{word_address}
 use Rattle.isa_model.specs.Arithmetic.{load_size, store_size}
 use Rattle.isa_model.specs.InstrTable.{instr_of}
-use Rattle.isa_model.specs.Effect.{Effect, Write, Operands, effect_of, address, load_word, store_word, to, Moved, Mixed, Rs1, Rs2}
+use Rattle.isa_model.specs.Effect.{Write, Operands, effect_of, address, load_word, store_word, to, Moved, Mixed, Rs1, Rs2}
 use Rattle.isa_model.specs.TaskPlaces.{IsValidTask}
 use Rattle.isa_model.specs.Alone.{AloneState, code_word_at, is_data_address, data_word_at, word_or_else, operands_of, is_privileged}
 use Rattle.hart_model.specs.declared.access.Access.TheVariants.{Read, Write as WriteAccess, Fetch}
 use Rattle.hart_model.specs.declared.tag.Mode.TheVariants.{User}
 use Rattle.hart_model.specs.Pmp.{PmpFile, is_allowed, task_pmp, IsAccessSize}
-use Rattle.hart_model.specs.Context.{ContextState, BodyState, task_of}
+use Rattle.hart_model.specs.Context.{BodyState, task_of}
 use Rattle.hart_model.specs.HartState.{HartState}
 use Rattle.hart_model.specs.UserStep.{latch_value, is_access_allowed, user_code_word, user_operands, user_effect_of_instr, user_effect_of_word, user_effect}
-use Rattle.hart_model.specs.UserLaws.{IsTaskLatch, IsAtRunAlone, alone_effect_of_instr, alone_effect_of_word, alone_effect}
+use Rattle.hart_model.specs.UserLaws.{IsTaskLatch, alone_effect_of_instr, alone_effect_of_word, alone_effect}
 use Rattle.hart_model.proofs.PmpLaws.{bounds_allow}
 use Rattle.hart_model.proofs.DecodedRegisters.{HasRegisters, decoded_registers}
 
