@@ -2,6 +2,11 @@ pub mod Mixtures
 mod TryWhy
 pub mod WhyTells
 pub mod PmpLaws
+pub mod DecodedRegisters
+pub mod UserEffects
+pub mod EffectShapes
+pub mod UserWrites
+pub mod UserStepIsAlone
 mod TryCsrs
 mod TryPmp
 mod SmallTask

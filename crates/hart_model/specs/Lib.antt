@@ -14,4 +14,5 @@ pub mod StepResult
 pub mod UserStep
 pub mod MachineStep
 pub mod HartStep
+pub mod UserLaws
 pub mod Laws

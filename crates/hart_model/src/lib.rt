@@ -1,5 +1,5 @@
 //! One hart: the values that its definitions speak of. `specs/` has its storage, how tags follow a write, why a write is
-//! explained, physical memory protection, control and status registers, and traps.
+//! explained, physical memory protection, control and status registers, traps, contexts, device ports, and its step in both modes.
 #![tactic(auto)]
 
 pub mod access;
@@ -10,6 +10,7 @@ pub mod port;
 pub mod probe;
 pub mod region;
 pub mod tag;
+pub mod user_laws;
 pub mod why_laws;
 
 pub use access::Access;

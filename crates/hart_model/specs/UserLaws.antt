@@ -1,0 +1,104 @@
+-- What an instruction of a hart in user mode has to do with the same instruction of the run alone. It is the contract of a law in
+-- `src/user_laws.rt`.
+use Rattle.std.specs.Prelude.{◌≡◌, ℕ, ◌+◌, ◌%◌, ◌<◌, ◌⊎◌, true, List, length, Option, Some, None, if◌then◌else◌}
+use Rattle.isa_model.specs.declared.task.Task.{Task}
+use Rattle.isa_model.specs.declared.latch.Latch.{Latch}
+use Rattle.isa_model.specs.declared.latch.Latch.TheVariants.{Reg, Mem}
+use Rattle.isa_model.specs.declared.instr.Instr.{Instr}
+use Rattle.isa_model.specs.declared.ends.End.TheVariants.{Faulted}
+use Rattle.isa_model.specs.InstrTable.{instr_of}
+use Rattle.isa_model.specs.Effect.{Effect, effect_of}
+use Rattle.isa_model.specs.TaskPlaces.{IsValidTask}
+use Rattle.isa_model.specs.Alone.{AloneState, code_word_at, is_data_address, is_privileged, operands_of, after_instr, after_call}
+use Rattle.hart_model.specs.declared.tag.Mode.TheVariants.{User}
+use Rattle.hart_model.specs.declared.calls.Did.TheVariants.{Ran, Trapped}
+use Rattle.hart_model.specs.declared.probe.Probe.{Probe}
+use Rattle.hart_model.specs.Pmp.{task_pmp}
+use Rattle.hart_model.specs.Traps.{csrs_after_trap, interrupt_of}
+use Rattle.hart_model.specs.Context.{ContextState, task_of}
+use Rattle.hart_model.specs.HartState.{HartState}
+use Rattle.hart_model.specs.StepResult.{Steps}
+use Rattle.hart_model.specs.UserStep.{latch_value, exception, user_effect, user_step, is_fuel_used}
+
+-- the latches by whose values a task's run goes on: its registers and its data words
+abbrev pub IsTaskLatch : Task → Latch → Type 0
+IsTaskLatch T (Reg r) = r < 32
+IsTaskLatch T (Mem at) = (is_data_address T at ≡ true) × (at % 4 ≡ 0)
+IsTaskLatch T latch = ⊥
+
+-- A hart in user mode stands where the run alone of the task that it holds does: with the boot configuration and the task's bounds in
+-- its protection, at the same pc, with the same values of registers and data words, the same output and the same tape position.
+pub record IsAtRunAlone (T : Task) (s : AloneState) (h : HartState) (c : ContextState) : Type 0 where
+  pub held : h.held ≡ Some c
+  pub task : task_of c.body ≡ T
+  pub slot : c.slot < 8
+  pub registers : length h.regs ≡ 32
+  pub mode : h.csrs.mode ≡ User
+  pub pmp : h.csrs.pmp ≡ task_pmp T
+  pub pc : h.pc ≡ s.pc
+  pub pc_aligned : s.pc % 4 ≡ 0
+  pub values : (l : Latch) → IsTaskLatch T l → latch_value h l ≡ s.value l
+  pub output : c.body.output ≡ s.output
+  pub tape_at : c.body.tape_at ≡ s.tape_at
+
+-- the effect of the run alone's instruction, by the order of the checks
+abbrev pub alone_effect_of_instr : Task → AloneState → Option Instr → Effect
+alone_effect_of_instr T s None = exception 2
+alone_effect_of_instr T s (Some instr) = if is_privileged instr then exception 2 else effect_of instr s.pc (operands_of T s.value instr)
+
+abbrev pub alone_effect_of_word : Task → AloneState → Option ℕ → Effect
+alone_effect_of_word T s None = exception 1
+alone_effect_of_word T s (Some word) = alone_effect_of_instr T s (instr_of word)
+
+abbrev pub alone_effect : Task → AloneState → Effect
+alone_effect T s = alone_effect_of_word T s (code_word_at T s.pc)
+
+-- Both go on: the hart stands where the run alone does after the instruction. Only registers, ports, Res, Load, Store and data words
+-- have changed, and the count is one more.
+pub record GoesOnAlone (T : Task) (s : AloneState) (h : HartState) (c : ContextState) : Type 0 where
+  pub hart : HartState
+  pub context : ContextState
+  pub probes : List Probe
+  pub step : user_step h ≡ Steps hart probes Ran
+  pub alone : IsAtRunAlone T (after_instr T s).state hart context
+  pub end_stays : (after_instr T s).state.end ≡ s.end
+  pub csrs : hart.csrs ≡ h.csrs
+  pub zero_word : hart.zero_word ≡ h.zero_word
+  pub rest : context ≡ record c { body = record c.body { data_words = context.body.data_words; count = c.body.count + 1 } }
+
+-- The hart traps by a cause: no register and no word has changed, and the count is one more.
+pub record TrapsBy (cause : ℕ) (h : HartState) (c : ContextState) : Type 0 where
+  pub hart : HartState
+  pub probes : List Probe
+  pub step : user_step h ≡ Steps hart probes (Trapped cause)
+  pub pc : hart.pc ≡ h.csrs.mtvec
+  pub csrs : hart.csrs ≡ csrs_after_trap h.csrs cause h.pc
+  pub registers : hart.regs ≡ h.regs
+  pub zero_word : hart.zero_word ≡ h.zero_word
+  pub held : hart.held ≡ Some (record c { body = record c.body { count = c.body.count + 1 } })
+
+-- Both fault by this cause, which is one of the exceptions below 8: the run alone ends as faulted at the pc, with no register and no word changed.
+pub record FaultsAlone (T : Task) (s : AloneState) (h : HartState) (c : ContextState) (cause : ℕ) : Type 0 where
+  pub traps : TrapsBy cause h c
+  pub is_low : cause < 8
+  pub ends : (after_instr T s).state.end ≡ Some (Faulted cause s.pc)
+  pub values : (l : Latch) → IsTaskLatch T l → (after_instr T s).state.value l ≡ s.value l
+  pub pc : (after_instr T s).state.pc ≡ s.pc
+  pub output : (after_instr T s).state.output ≡ s.output
+  pub tape_at : (after_instr T s).state.tape_at ≡ s.tape_at
+
+-- Both call a service: the hart traps as for ECALL, and the run alone does the service that a7 and a0 tell.
+pub record CallsAlone (T : Task) (s : AloneState) (h : HartState) (c : ContextState) : Type 0 where
+  pub traps : TrapsBy 8 h c
+  pub serves : after_instr T s ≡ after_call T (s.value (Reg 17)) (s.value (Reg 10)) s
+
+-- The instruction has one effect, on the hart and alone: the same writes with the same values in the same order, and the same that
+-- follows. And both go on, fault or call alike.
+pub record IsInstrAlone (T : Task) (s : AloneState) (h : HartState) (c : ContextState) : Type 0 where
+  pub effect : user_effect h c.body ≡ alone_effect T s
+  pub follows : GoesOnAlone T s h c ⊎ ((cause : ℕ) × FaultsAlone T s h c cause) ⊎ CallsAlone T s h c
+
+-- Where no interrupt is due, a step in user mode does what the run alone does by one instruction, whatever the instruction is.
+abbrev pub UserStepIsRunAlone : Type 0
+UserStepIsRunAlone = (T : Task) → IsValidTask T → (s : AloneState) (h : HartState) (c : ContextState) →
+    IsAtRunAlone T s h c → interrupt_of h.csrs (is_fuel_used h.held) ≡ None → IsInstrAlone T s h c
