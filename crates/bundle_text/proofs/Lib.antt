@@ -3,4 +3,10 @@ pub mod HexDigits
 pub mod Rest
 pub mod Splits
 pub mod Eaches
+pub mod RunTokens
+pub mod Steps
+pub mod NumberRanges
+pub mod Sizes
+pub mod PlaceFacts
+pub mod DraftRange
 pub mod Examples
