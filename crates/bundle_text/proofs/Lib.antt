@@ -8,5 +8,6 @@ pub mod Steps
 pub mod NumberRanges
 pub mod Sizes
 pub mod PlaceFacts
-pub mod DraftRange
+pub mod OperandRanges
+pub mod DraftRanges
 pub mod Examples

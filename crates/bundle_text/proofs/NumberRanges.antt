@@ -1,6 +1,6 @@
 -- The numbers of tokens are in their ranges.
 use Rattle.std.proofs.Common.{◌≡◌, ℕ, ◌+◌, ◌-◌, ◌*◌, ◌<◌, ◌≤◌, ◌^◌, Bool, true, false, ◌&&◌, cond, eqb, leb, List, [], ◌∷◌, length, Option, Some, None, Result, Ok, Err, refl, sym, ap, ◌∙◌, arith, suc}
-use Rattle.std.proofs.Math.Nat.{pow-suc, pow-le-pow_right, mul-le-mul_left}
+use Rattle.std.proofs.Math.Nat.{pow-suc, pow-le-pow_right, mul-le-mul_left, mul_comm, mul_assoc}
 use Rattle.std.proofs.lemmas.Bool.{and_parts, leb-true}
 use Rattle.std.proofs.lemmas.Option.{none-some, same_Some}
 use Rattle.core_model.specs.Events.{hart_of}
@@ -56,16 +56,20 @@ digit_small b d h =
     some_or (is_decimal_digit b) (b - 48) d (hex_letter_of b)
     (λ e. let q = and_parts (leb 48 b) (leb b 57) e in let high = leb-true b 57 q.1 in omega arith) (letter_small b) h
 
+grows : (m so_far d p q : ℕ) → m < (so_far * 16 + d + 1) * p → d < 16 → q ≡ p * 16 → m < (so_far + 1) * q
+grows m so_far d p q below low e =
+    let most : so_far * 16 + d + 1 ≤ (so_far + 1) * 16 = omega arith in
+    let wide = mul-le-mul_left p most in
+    let left = mul_comm p (so_far * 16 + d + 1) in
+    let right = mul_comm p ((so_far + 1) * 16) in
+    let whole : (so_far + 1) * q ≡ (so_far + 1) * 16 * p = ap (λ n. (so_far + 1) * n) (e ∙ mul_comm p 16) ∙ sym (mul_assoc (so_far + 1) 16 p) in
+    omega arith
+
 hex_more : (so_far m : ℕ) (bs : List ℕ) (o : Option ℕ) → ((d : ℕ) → o ≡ Some d → d < 16) → hex_after (with_digit so_far o) bs ≡ Some m
     → ((n : ℕ) → hex_after (Some n) bs ≡ Some m → m < (n + 1) * 16 ^ length bs) → m < (so_far + 1) * 16 ^ suc (length bs)
 hex_more so_far m bs None small h rest = absurd (none-some m (sym (hex_after-None bs) ∙ h))
 hex_more so_far m bs (Some d) small h rest =
-    let low = small d refl in
-    let below = rest (so_far * 16 + d) h in
-    let most : so_far * 16 + d + 1 ≤ (so_far + 1) * 16 = omega arith in
-    let wide = mul-le-mul_left (16 ^ length bs) most in
-    let e = pow-suc 16 (length bs) in
-    omega arith
+    grows m so_far d (16 ^ length bs) (16 ^ suc (length bs)) (rest (so_far * 16 + d) h) (small d refl) (pow-suc 16 (length bs))
 
 -- a number and so many digits after it
 hex_after_range : (so_far m : ℕ) (text : List ℕ) → hex_after (Some so_far) text ≡ Some m → m < (so_far + 1) * 16 ^ length text
@@ -111,7 +115,7 @@ event_range_of event hart_is (Ok o) fits run h =
     let found : EventRun = record { event = event o.hart; times = o.times } in
     let same : found ≡ run = same_ok found run h in
     let is = fits o refl in
-    rw (← same) (record { hart = rw hart_is o.hart is.hart; times = is.times })
+    rw (← same) (record { hart = rw (hart_is o.hart) is.hart; times = is.times })
 event_range_of event hart_is (Err kind) fits run h = absurd (err_ok run kind h)
 
 go_range : (t : List ℕ) (run : EventRun) → event_with (λ hart. Go hart) (order_operand t) ≡ Ok run → IsEventRunInRange run

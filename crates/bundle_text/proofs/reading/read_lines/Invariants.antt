@@ -2,7 +2,7 @@
 use Rattle.std.proofs.Common.{◌≡◌, ◌+◌, ◌≤◌, length}
 use Rattle.bundle_text.specs.Pieces.{lines}
 use Rattle.bundle_text.specs.Lines.{with_lines, bundle_of}
-use Rattle.bundle_text.proofs.reading.read_bundle.Given as goal
+use Rattle.bundle_text.proofs.reading.read_lines.Given as goal
 
 abbrev pub invariant-loop-line : goal.invariant-loop-line
 invariant-loop-line l =
