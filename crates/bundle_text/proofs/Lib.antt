@@ -10,4 +10,5 @@ pub mod Sizes
 pub mod PlaceFacts
 pub mod OperandRanges
 pub mod DraftRanges
+pub mod LineLaws
 pub mod Examples
