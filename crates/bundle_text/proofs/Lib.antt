@@ -11,4 +11,8 @@ pub mod PlaceFacts
 pub mod OperandRanges
 pub mod DraftRanges
 pub mod LineLaws
+pub mod TokenLaws
+pub mod Decides
+pub mod NumberLaws
+pub mod RunLaws
 pub mod Examples
