@@ -1,6 +1,8 @@
 //! Tables of texts, made by hand, with what they read as.
 
 use crate::{BundleFault, BundleKind, Code, read_bundle};
+use std::alloc::Global;
+use std::process::Abort;
 use std::test::Fail;
 
 /// A program that writes a word and exits.
@@ -74,9 +76,9 @@ const REFUSED: [(&str, &str, u32, BundleKind); 42] = [
 ];
 
 /// Checks the answer to a text.
-fn answers(rt: HostRuntime, shows: &str, text: &[u8], fault: Option<BundleFault>) {
+fn answers<R: Abort>(rt: &R, alloc: Global, shows: &str, text: &[u8], fault: Option<BundleFault>) {
     assert!(rt; text.len() < 1000);
-    assert_eq!(rt; read_bundle(rt.alloc(), text).err(), fault, "{shows}");
+    assert_eq!(rt; read_bundle(alloc, text).err(), fault, "{shows}");
 }
 
 #[test]
@@ -89,7 +91,7 @@ fn first_bytes(rt: HostRuntime) {
             }),
             None => None,
         };
-        answers(rt, "a prefix", &FIVE_LINES.as_bytes()[..*count], fault);
+        answers(&rt, rt.alloc(), "a prefix", &FIVE_LINES.as_bytes()[..*count], fault);
     }
 }
 
@@ -102,7 +104,7 @@ fn first_faults(rt: HostRuntime) -> Result<(), Fail> {
             line: *line,
             kind: *kind,
         };
-        answers(rt, shows, text.as_slice(), Some(fault));
+        answers(&rt, rt.alloc(), shows, text.as_slice(), Some(fault));
     }
     Ok(())
 }
@@ -137,6 +139,7 @@ fn a_whole_bundle(rt: HostRuntime) -> Result<(), Fail> {
     assert_eq!(rt; bundle.worlds.len(), 2);
     assert_eq!(rt; bundle.events.len(), 2);
     assert_eq!(rt; bundle.events.as_slice()[0].times, 1_048_576);
+    assert_eq!(rt; bundle.order.len(), 2);
     assert_eq!(rt; bundle.order.as_slice()[0].times, 2);
     Ok(())
 }
