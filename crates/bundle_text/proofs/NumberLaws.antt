@@ -92,8 +92,8 @@ not_between low high b e = outside_one low high b (and_cases (leb low b) (leb b 
 no_char : (b : ℕ) → (leb 48 b && leb b 57) ≡ false → (leb 97 b && leb b 102) ≡ false → (leb 65 b && leb b 70) ≡ false → IsHexChar b → ⊥
 no_char b decimal small capital h =
     elim h.range as (λ _. ⊥) [
-    | inl p ↦ not_between 48 57 b decimal p.0 p.1
-    | inr q ↦ elim q as (λ _. ⊥) [ inl p ↦ not_between 97 102 b small p.0 p.1 | inr p ↦ not_between 65 70 b capital p.0 p.1 ]
+      | inl p ↦ not_between 48 57 b decimal p.0 p.1
+      | inr q ↦ elim q as (λ _. ⊥) [ inl p ↦ not_between 97 102 b small p.0 p.1 | inr p ↦ not_between 65 70 b capital p.0 p.1 ]
     ]
 
 capital_is : (t : Bool) (b : ℕ) → (leb 65 b && leb b 70) ≡ t → (leb 48 b && leb b 57) ≡ false → (leb 97 b && leb b 102) ≡ false

@@ -89,8 +89,8 @@ tick_or_none false letter rest e go =
 
 go_or_tick : (t : Bool) (letter : ℕ) (rest : List ℕ) → eqb letter 103 ≡ t
     → DecidesEvent (letter ∷ rest)
-        (cond t (event_with (λ hart. Go hart) (order_operand rest))
-            (cond (eqb letter 116) (event_with (λ hart. Tick hart) (order_operand rest)) (Err BadNumber)))
+    (cond t (event_with (λ hart. Go hart) (order_operand rest))
+    (cond (eqb letter 116) (event_with (λ hart. Tick hart) (order_operand rest)) (Err BadNumber)))
 go_or_tick true letter rest e = after_letter letter rest (λ hart. Go hart) (rw (eqb-true letter 103 e) go_letter)
 go_or_tick false letter rest e = tick_or_none (eqb letter 116) letter rest refl (eqb-false letter 103 e)
 
