@@ -20,3 +20,8 @@ seven v i lt small =
 pub grows : (v d i : ℕ) → v < 16 ^ i → d < 16 → v * 16 + d < 16 ^ (i + 1)
 grows v d i lt small =
     let e : 16 ^ (i + 1) ≡ 16 ^ i * 16 = ap (λ k. 16 ^ k) (add-one i) ∙ pow-suc 16 i in omega arith
+
+pub eight : (v i : ℕ) → v < 16 ^ i → i ≤ 8 → v < 4294967296
+eight v i lt small =
+    let pos : 0 < 16 = omega arith in
+    let top : 16 ^ i ≤ 16 ^ 8 = pow-le-pow_right {n = 16} pos {i = i} {j = 8} small in omega arith

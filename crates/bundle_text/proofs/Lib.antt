@@ -1,11 +1,6 @@
 pub mod Cut
 pub mod HexDigits
-pub mod Tokens
 pub mod Rest
-pub mod CodeLines
-pub mod DigitChars
-pub mod Numerals
-pub mod Joins
-pub mod LineForms
-pub mod BundleForm
+pub mod Splits
+pub mod Eaches
 pub mod Examples

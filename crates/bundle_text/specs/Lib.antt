@@ -1,8 +1,10 @@
-pub use Rattle.isa_model.specs.InstrTable
-pub mod Form
-pub mod CodeWord
-pub mod Range
 pub mod Pieces
 pub mod Numbers
-pub mod Grammar
+pub mod Runs
+pub mod Operands
+pub mod Places
+pub mod Lines
+pub mod Form
 pub mod Answer
+pub mod Range
+pub mod Text

@@ -2,14 +2,27 @@
 
 ghost use Rattle.std.specs.Prelude.{◌≡◌};
 
-use isa_model::words::Words;
-use std::marker::Model;
+use crate::items::Items;
+use core_model::{EventRun, OrderRun, Plan};
+use isa_model::Words;
+use std::alloc::{AllocError, AllocFailed};
+use std::convert::From;
+
+/// A line of text, without the bytes that end it.
+pub type Line = Items<u8>;
 
 /// The code of a task.
 #[derive(Debug, Drop)]
 pub enum Code {
-    /// Words of instructions, in the order of their addresses; at most 4,096.
+    /// Words of instructions, in the order of their addresses.
     Words(Words),
+    /// Lines of assembler text, in their order.
+    Text {
+        /// The number of the first of them in the bundle's text, where lines are numbered from 1.
+        first_line: u32,
+        /// The lines.
+        lines: Items<Line>,
+    },
 }
 
 /// A task as a bundle states it.
@@ -19,43 +32,30 @@ pub struct TaskText {
     pub fuel: u32,
     /// How many words its output has at most, 0 to 4,096.
     pub out_max: u32,
-    /// How many data words it has, 0 to 1,024; so far always 0.
+    /// How many data words it has, 0 to 1,024.
     pub data_len: u32,
-    /// The words that it may take as its input, at most 4,096; so far always none.
+    /// The words that it may take as its input.
     pub tape: Words,
     /// Its code.
     pub code: Code,
 }
 
-/// Tasks in their order, which contracts see as a list.
+/// When the timer of a hart rings.
 #[derive(Debug, Drop)]
-pub struct Tasks {
-    inner: Vec<TaskText>,
+pub struct PlanText {
+    /// The hart's number, 0 to 7.
+    pub hart: u32,
+    /// Its quanta, each 0 to 4,096, and its tail, 1 to 4,096.
+    pub plan: Plan,
 }
 
-impl Model for Tasks {
-    ghost use Rattle.std.specs.Prelude.{List};
-    ghost use Rattle.bundle_text.specs.declared.bundle.TaskText.{TaskText};
-
-    ghost Value = { List TaskText };
-
-    ghost view = { λ t. t.inner.items };
-}
-
-impl Tasks {
-    /// The tasks of a `Vec`.
-    pub fn new(inner: Vec<TaskText>) -> Tasks
-        ensures tasks { result ≡ inner.items }
-    {
-        Tasks { inner }
-    }
-
-    /// The tasks as a slice.
-    pub fn as_slice(&self) -> &[TaskText]
-        ensures tasks { result.now ≡ self.now }
-    {
-        self.inner.as_slice()
-    }
+/// A choice of the words that a task takes, and the secret that it shares.
+#[derive(Debug, Drop)]
+pub struct World {
+    /// The secret.
+    pub secret: u32,
+    /// The words.
+    pub tape: Words,
 }
 
 /// What the core runs.
@@ -63,23 +63,65 @@ impl Tasks {
 pub struct Bundle {
     /// How many slots the core has for contexts, 1 to 8.
     pub slots: u32,
-    /// The tasks, 1 to 32 of them.
-    pub tasks: Tasks,
+    /// The plans, of which a hart has at most one.
+    pub plans: Items<PlanText>,
+    /// The tasks.
+    pub tasks: Items<TaskText>,
+    /// The worlds, all with as many words.
+    pub worlds: Items<World>,
+    /// The events of the core, in runs.
+    pub events: Items<EventRun>,
+    /// The order of the harts' queue actions, in runs.
+    pub order: Items<OrderRun>,
 }
 
-/// Why a text is refused.
+/// Why a line of a bundle is refused, in the order in which the reasons are tried.
 #[derive(Clone, Copy, Debug, PartialEq, Eq)]
 pub enum BundleKind {
-    /// The text is not of the form that is read so far.
-    NotYet,
+    /// A byte that isn't of text: neither printable ASCII nor a tab nor a CR.
+    NotText,
+    /// The first token is no word that begins a line.
+    UnknownWord,
+    /// Its word can't stand here.
+    Misplaced,
+    /// The number of tokens is wrong, or a fixed word is missing, or a world has another length than the first.
+    Operands,
+    /// A token isn't of its form.
+    BadNumber,
+    /// A number of its form is outside its range.
+    OutOfRange,
+    /// A second plan for a hart.
+    Repeated,
+    /// The text ends before its slots or inside a task.
+    Missing,
     /// Memory ran out.
     Memory,
+}
+
+impl From<AllocError> for BundleKind {
+    ghost use Rattle.bundle_text.specs.declared.bundle.BundleKind.TheVariants.{Memory};
+
+    ghost from_gives = { λ _ kind. kind ≡ Memory };
+
+    fn from(_: AllocError) -> BundleKind {
+        BundleKind::Memory
+    }
+}
+
+impl<T: Drop> From<AllocFailed<T>> for BundleKind {
+    ghost use Rattle.bundle_text.specs.declared.bundle.BundleKind.TheVariants.{Memory};
+
+    ghost from_gives = { λ _ kind. kind ≡ Memory };
+
+    fn from(_: AllocFailed<T>) -> BundleKind {
+        BundleKind::Memory
+    }
 }
 
 /// The refusal of a text.
 #[derive(Clone, Copy, Debug, PartialEq, Eq)]
 pub struct BundleFault {
-    /// The line that is refused, from 1, or 0 where the refusal is of no one line. So far it is always 0.
+    /// The line that is refused, from 1; where lines are missing the number of lines plus 1, and where memory ran out 0.
     pub line: u32,
     /// Why it is refused.
     pub kind: BundleKind,

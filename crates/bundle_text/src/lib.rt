@@ -1,16 +1,18 @@
-//! Bundles as text: the tasks that are to run, and how many slots the core has for them.
-//!
-//! The text that is read so far is the strict form of `specs/Form.antt`: one task, whose code stands there as words. All
-//! other text is refused as not yet read.
+//! Bundles as text: what the core is to run. `specs/Form.antt` has the form by productions, and `specs/Lines.antt` says line by line
+//! what a text says and where it first breaks the form.
 #![tactic(auto)]
 
 pub mod bundle;
-pub mod laws;
+mod draft;
+pub mod items;
 mod numbers;
+mod operands;
 mod pieces;
+mod places;
 mod reading;
 
-pub use bundle::{Bundle, BundleFault, BundleKind, Code, TaskText, Tasks};
+pub use bundle::{Bundle, BundleFault, BundleKind, Code, Line, PlanText, TaskText, World};
+pub use items::Items;
 pub use reading::read_bundle;
 
 #[cfg(test)]

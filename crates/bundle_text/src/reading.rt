@@ -1,247 +1,354 @@
-//! Reading a bundle.
+//! Reading a bundle, line by line.
 
-ghost use Rattle.std.specs.Prelude.{◌≡◌, ◌-◌, ◌<◌, ◌^◌, ◌∷◌, length, option_map, option_copied, is_some, Some, None, IfOk, IfSome, IfNone, IfErr};
-ghost use Rattle.bundle_text.specs.CodeWord.{is_code_instr, is_code_word};
-ghost use Rattle.bundle_text.specs.Pieces.{tokens, lines, lines_after};
-ghost use Rattle.bundle_text.specs.Grammar.{after_word, number_then, last_number, version_of, slots_of, limits_of, code_word_of, words_of, is_endtask, words_at_end, code_of, head_of, bundle_of, Adds};
-ghost use Rattle.bundle_text.specs.Form.{Reads};
-ghost use Rattle.bundle_text.specs.Range.{IsInRange};
-ghost use Rattle.bundle_text.specs.Answer.{Answers, Refuses};
+ghost use Rattle.std.specs.Prelude.{◌≡◌, ◌-◌, ◌+◌, ◌<◌, ◌^◌, length, IfOk};
+ghost use Rattle.bundle_text.specs.Pieces.{texts, tokens as tokens_of};
+ghost use Rattle.bundle_text.specs.Lines.{task_with, with_words, with_code_line, with_plan, with_task_ended, with_operands, is_comment, is_endcode, line_of_word, line_of_tokens, line_of_code, with_line, no_lines, bundle_of};
+ghost use Rattle.bundle_text.specs.Answer.{Says, Answers};
 
-use crate::bundle::{Bundle, BundleFault, BundleKind, Code, TaskText, Tasks};
-use crate::numbers::{decimal, hex_word};
-use crate::pieces::{cut_line, cut_token};
-use isa_model::{Alu, Instr, Words};
-use rv_decode::decode;
+use crate::bundle::{Bundle, BundleFault, BundleKind, Code, Line, TaskText};
+use crate::draft::{Draft, Place, Word};
+use crate::items::Items;
+use crate::operands::{events, has_plan, one_number, order, plan_operands, task_operands, words, world_operands};
+use crate::pieces::{cut_line, is_text, tokens};
+use crate::places::{is_in_code, may_end, place_after, word_named};
+use isa_model::Words;
 use std::alloc::{AllocError, Global};
 
-/// How many words a task's code has at most.
-const CODE_MAX: usize = 4096;
-
-/// The line of a refusal that is of no one line.
+/// The line of a refusal for want of memory.
 const NO_LINE: u32 = 0;
 
-/// What follows a fixed word and its blank at the front of a line.
-fn rest_after_word<'a>(line: &'a [u8], word: &[u8]) -> Option<&'a [u8]>
-    ensures rest { option_map (λ rest. tokens rest.now) result ≡ after_word word.now (tokens line.now) }
+/// A task without tape and code.
+fn task_with(alloc: Global, fuel: u32, out_max: u32, data_len: u32) -> TaskText
+    ensures value { result ≡ task_with fuel out_max data_len }
 {
-    let (token, rest) = cut_token(line);
-    if token == word { rest } else { None }
-}
-
-/// A number in a range and its blank at the front of a line, and what follows them.
-fn number_and_rest(line: &[u8], low: u32, high: u32) -> Option<(u32, &[u8])>
-    ensures value { option_map (λ found. (found.0, tokens found.1.now)) result ≡ number_then low high (tokens line.now) }
-{
-    let (token, rest) = cut_token(line);
-    let rest = rest?;
-    Some((decimal(token, low, high)?, rest))
-}
-
-/// A number in a range that is all of a line.
-fn whole_number(line: &[u8], low: u32, high: u32) -> Option<u32>
-    ensures value { result ≡ last_number low high (tokens line.now) }
-{
-    let (token, rest) = cut_token(line);
-    if rest.is_some() {
-        return None;
+    TaskText {
+        fuel,
+        out_max,
+        data_len,
+        tape: Words::new(Vec::new(alloc)),
+        code: Code::Words(Words::new(Vec::new(alloc))),
     }
-    decimal(token, low, high)
 }
 
-/// The version of the first line, which is 1.
-fn version(line: &[u8]) -> Option<u32>
-    ensures value { result ≡ version_of (tokens line.now) }
+/// What no line says.
+fn no_lines(alloc: Global) -> Draft
+    ensures value { result ≡ no_lines }
 {
-    whole_number(rest_after_word(line, b"bundle")?, 1, 1)
+    Draft {
+        place: Place::Start,
+        bundle: Bundle {
+            slots: 0,
+            plans: Items::empty(alloc),
+            tasks: Items::empty(alloc),
+            worlds: Items::empty(alloc),
+            events: Items::empty(alloc),
+            order: Items::empty(alloc),
+        },
+        task: task_with(alloc, 0, 0, 0),
+    }
 }
 
-/// The slots of the second line.
-fn slots(line: &[u8]) -> Option<u32>
-    ensures value { result ≡ slots_of (tokens line.now) }
+/// Code with words more.
+fn with_words(code: Code, more: &[u32]) -> Result<Code, AllocError>
+    ensures value { IfOk result (λ new. new ≡ with_words code more.now) }
 {
-    whole_number(rest_after_word(line, b"slots")?, 1, 8)
+    match code {
+        Code::Words(words) => {
+            let mut all = words.into_vec();
+            all.extend_from_slice(more)?;
+            Ok(Code::Words(Words::new(all)))
+        }
+        Code::Text { first_line, lines } => Ok(Code::Text { first_line, lines }),
+    }
 }
 
-/// The fuel and the greatest output of the third line.
-#[tactic(auto, unfolding(crate::specs::Grammar::limits_of))]
-fn limits(line: &[u8]) -> Option<(u32, u32)>
-    ensures value { result ≡ limits_of (tokens line.now) }
+/// Code with a line more.
+fn with_code_line(alloc: Global, code: Code, line: &[u8]) -> Result<Code, AllocError>
+    ensures value { IfOk result (λ new. new ≡ with_code_line code line.now) }
 {
-    let rest = rest_after_word(line, b"task")?;
-    let rest = rest_after_word(rest, b"fuel")?;
-    let (fuel, rest) = number_and_rest(rest, 1, 100_000)?;
-    let rest = rest_after_word(rest, b"out")?;
-    let (out_max, rest) = number_and_rest(rest, 0, 4096)?;
-    let rest = rest_after_word(rest, b"data")?;
-    whole_number(rest, 0, 0)?;
-    Some((fuel, out_max))
+    match code {
+        Code::Words(words) => Ok(Code::Words(words)),
+        Code::Text { first_line, lines } => {
+            let mut all = lines.into_vec();
+            let line: Line = Items::new(Vec::from_slice(alloc, line)?);
+            all.push(line)?;
+            Ok(Code::Text {
+                first_line,
+                lines: Items::new(all),
+            })
+        }
+    }
 }
 
-/// Whether an instruction may stand in code: LUI, ADDI, ADD and ECALL.
-fn is_instr_of_code(instr: Instr) -> bool
-    ensures value { result ≡ is_code_instr instr }
+/// The draft with a plan.
+fn plan_line(alloc: Global, draft: Draft, tokens: &[&[u8]]) -> Result<Draft, BundleKind>
+    ensures value { Says result (with_operands Word.Plan 0 draft (texts tokens.now)) }
 {
-    match instr {
-        Instr::Lui { .. } | Instr::Ecall => true,
-        Instr::AluImm { op: Alu::Add, .. } => true,
-        Instr::AluReg { op: Alu::Add, .. } => true,
+    let plan = plan_operands(alloc, tokens)?;
+    if has_plan(plan.hart, draft.bundle.plans.as_slice()) {
+        return Err(BundleKind::Repeated);
+    }
+    let mut draft = draft;
+    draft.bundle.plans.push(plan)?;
+    Ok(draft)
+}
+
+/// The draft with a task opened.
+fn task_line(alloc: Global, draft: Draft, tokens: &[&[u8]]) -> Result<Draft, BundleKind>
+    ensures value { Says result (with_operands Word.Task 0 draft (texts tokens.now)) }
+{
+    let (fuel, out_max, data_len) = task_operands(tokens)?;
+    Ok(Draft {
+        place: draft.place,
+        bundle: draft.bundle,
+        task: task_with(alloc, fuel, out_max, data_len),
+    })
+}
+
+/// The draft with words more on the tape of its task.
+fn tape_line(alloc: Global, draft: Draft, tokens: &[&[u8]]) -> Result<Draft, BundleKind>
+    ensures value { Says result (with_operands Word.Tape 0 draft (texts tokens.now)) }
+{
+    let mut more = words(alloc, tokens)?;
+    let Draft { place, bundle, task } = draft;
+    let TaskText { fuel, out_max, data_len, tape, code } = task;
+    let mut tape = tape.into_vec();
+    tape.append(&mut more)?;
+    let tape = Words::new(tape);
+    let task = TaskText { fuel, out_max, data_len, tape, code };
+    Ok(Draft { place, bundle, task })
+}
+
+/// The draft with words more in the code of its task.
+fn words_line(alloc: Global, draft: Draft, tokens: &[&[u8]]) -> Result<Draft, BundleKind>
+    ensures value { Says result (with_operands Word.Words 0 draft (texts tokens.now)) }
+{
+    let more = words(alloc, tokens)?;
+    let Draft { place, bundle, task } = draft;
+    let TaskText { fuel, out_max, data_len, tape, code } = task;
+    let code = with_words(code, more.as_slice())?;
+    let task = TaskText { fuel, out_max, data_len, tape, code };
+    Ok(Draft { place, bundle, task })
+}
+
+/// The draft with lines of code opened, of which the next line is the first.
+fn code_line(alloc: Global, number: u32, draft: Draft, tokens: &[&[u8]]) -> Result<Draft, BundleKind>
+    requires number { number < 2 ^ 32 - 1 }
+    ensures value { Says result (with_operands Word.Code number draft (texts tokens.now)) }
+{
+    if !tokens.is_empty() {
+        return Err(BundleKind::Operands);
+    }
+    let Draft { place, bundle, task } = draft;
+    let TaskText { fuel, out_max, data_len, tape, .. } = task;
+    let code = Code::Text {
+        first_line: number + 1,
+        lines: Items::empty(alloc),
+    };
+    let task = TaskText { fuel, out_max, data_len, tape, code };
+    Ok(Draft { place, bundle, task })
+}
+
+/// The draft with its task ended.
+fn end_line(alloc: Global, draft: Draft, tokens: &[&[u8]]) -> Result<Draft, BundleKind>
+    ensures value { Says result (with_operands Word.EndTask 0 draft (texts tokens.now)) }
+{
+    if !tokens.is_empty() {
+        return Err(BundleKind::Operands);
+    }
+    let Draft { place, mut bundle, task } = draft;
+    bundle.tasks.push(task)?;
+    Ok(Draft {
+        place,
+        bundle,
+        task: task_with(alloc, 0, 0, 0),
+    })
+}
+
+/// The draft with a world.
+fn world_line(alloc: Global, draft: Draft, tokens: &[&[u8]]) -> Result<Draft, BundleKind>
+    ensures value { Says result (with_operands Word.World 0 draft (texts tokens.now)) }
+{
+    let world = world_operands(alloc, draft.bundle.worlds.as_slice(), tokens)?;
+    let mut draft = draft;
+    draft.bundle.worlds.push(world)?;
+    Ok(draft)
+}
+
+/// The draft with events.
+fn events_line(alloc: Global, draft: Draft, tokens: &[&[u8]]) -> Result<Draft, BundleKind>
+    ensures value { Says result (with_operands Word.Events 0 draft (texts tokens.now)) }
+{
+    let runs = events(alloc, tokens)?;
+    let mut draft = draft;
+    draft.bundle.events.append(runs)?;
+    Ok(draft)
+}
+
+/// The draft with more of the order.
+fn order_line(alloc: Global, draft: Draft, tokens: &[&[u8]]) -> Result<Draft, BundleKind>
+    ensures value { Says result (with_operands Word.Order 0 draft (texts tokens.now)) }
+{
+    let runs = order(alloc, tokens)?;
+    let mut draft = draft;
+    draft.bundle.order.append(runs)?;
+    Ok(draft)
+}
+
+/// The draft with what the tokens after a word add.
+fn with_operands(
+    alloc: Global,
+    word: Word,
+    number: u32,
+    draft: Draft,
+    tokens: &[&[u8]],
+) -> Result<Draft, BundleKind>
+    requires number { number < 2 ^ 32 - 1 }
+    ensures value { Says result (with_operands word number draft (texts tokens.now)) }
+{
+    match word {
+        Word::Bundle => {
+            one_number(1, 1, tokens)?;
+            Ok(draft)
+        }
+        Word::Slots => {
+            let slots = one_number(1, 8, tokens)?;
+            let mut draft = draft;
+            draft.bundle.slots = slots;
+            Ok(draft)
+        }
+        Word::Plan => plan_line(alloc, draft, tokens),
+        Word::Task => task_line(alloc, draft, tokens),
+        Word::Tape => tape_line(alloc, draft, tokens),
+        Word::Words => words_line(alloc, draft, tokens),
+        Word::Code => code_line(alloc, number, draft, tokens),
+        Word::EndCode => Err(BundleKind::Misplaced),
+        Word::EndTask => end_line(alloc, draft, tokens),
+        Word::World => world_line(alloc, draft, tokens),
+        Word::Events => events_line(alloc, draft, tokens),
+        Word::Order => order_line(alloc, draft, tokens),
+    }
+}
+
+/// Whether a token begins a comment.
+fn is_comment(token: &[u8]) -> bool
+    ensures value { result ≡ is_comment token.now }
+{
+    match token {
+        [b'#', ..] => true,
         _ => false,
     }
 }
 
-/// Whether a word is that of an instruction that may stand in code.
-#[tactic(auto, unfolding(crate::specs::CodeWord::is_code_word))]
-fn is_of_code(word: u32) -> bool
-    ensures value { result ≡ is_code_word word }
+/// Whether tokens end lines of code.
+fn is_endcode(tokens: &[&[u8]]) -> bool
+    ensures value { result ≡ is_endcode (texts tokens.now) }
 {
-    decode(word).is_some_and(is_instr_of_code)
-}
-
-/// The word of a token, if it may stand in code.
-fn code_word(token: &[u8]) -> Option<u32>
-    ensures value { result ≡ code_word_of token.now }
-{
-    let word = hex_word(token)?;
-    if is_of_code(word) { Some(word) } else { None }
-}
-
-/// Whether a line ends the task.
-fn ends_task(line: &[u8]) -> bool
-    ensures value { result ≡ is_endtask (tokens line.now) }
-{
-    let (token, rest) = cut_token(line);
-    rest.is_none() && token == b"endtask".as_slice()
-}
-
-/// Puts the words of a line after the words so far. It answers false where it is no line of words.
-fn add_words(line: &[u8], code: &mut Vec<u32>) -> Result<bool, AllocError>
-    ensures words { IfOk result (λ is_line. Adds (words_of (tokens line.now)) is_line code.old.items code.new.items) }
-{
-    let mut rest = rest_after_word(line, b"words");
-    if rest.is_none() {
-        return Ok(false);
-    }
-    while let Some(text) = rest {
-        let (token, next) = cut_token(text);
-        match code_word(token) {
-            Some(word) => code.push(word)?,
-            None => return Ok(false),
-        }
-        rest = next;
-    }
-    Ok(true)
-}
-
-/// Whether what follows a line end is nothing.
-fn ends_text(rest: Option<&[u8]>) -> bool
-    ensures value { result ≡ is_some (words_at_end (lines_after (option_copied rest.entry))) }
-{
-    match rest {
-        Some(rest) => rest.is_empty(),
-        None => false,
+    match tokens {
+        [token] => *token == b"endcode".as_slice(),
+        _ => false,
     }
 }
 
-/// The code of the lines from the fourth on: lines of words, the end of the task, and nothing more.
-fn code_words(alloc: Global, lines: Option<&[u8]>) -> Result<Option<Vec<u32>>, AllocError>
-    ensures value { IfOk result (λ code. option_map (λ v. v.items) code ≡ code_of (lines_after (option_copied lines.entry))) }
+/// The draft with a line outside code.
+fn line_of_tokens(
+    alloc: Global,
+    number: u32,
+    draft: Draft,
+    tokens: &[&[u8]],
+) -> Result<Draft, BundleKind>
+    requires number { number < 2 ^ 32 - 1 }
+    ensures value { Says result (line_of_tokens number draft (texts tokens.now)) }
 {
-    let mut code = Vec::new(alloc);
-    let mut rest = lines;
-    while let Some(text) = rest {
-        let (line, next) = cut_line(text);
-        if ends_task(line) {
-            return Ok(if ends_text(next) { Some(code) } else { None });
-        }
-        if !add_words(line, &mut code)? {
-            return Ok(None);
-        }
-        rest = next;
-    }
-    Ok(None)
-}
-
-/// The first three lines, and what follows them.
-#[tactic(auto, unfolding(crate::specs::Grammar::bundle_of))]
-fn three_lines(bytes: &[u8]) -> Option<(&[u8], &[u8], &[u8], Option<&[u8]>)>
-    ensures some { IfSome result (λ cut. lines bytes.now ≡ cut.0.now ∷ cut.1.now ∷ cut.2.now ∷ lines_after (option_copied cut.3)) }
-    ensures none { IfNone result (bundle_of (lines bytes.now) ≡ None) }
-{
-    let (first, rest) = cut_line(bytes);
-    let (second, rest) = cut_line(rest?);
-    let (third, rest) = cut_line(rest?);
-    Some((first, second, third, rest))
-}
-
-/// The slots, and the fuel and the greatest output, of the first three lines.
-fn head(first: &[u8], second: &[u8], third: &[u8]) -> Option<(u32, (u32, u32))>
-    ensures value { result ≡ head_of first.now second.now third.now }
-{
-    version(first)?;
-    let slots = slots(second)?;
-    let limits = limits(third)?;
-    Some((slots, limits))
-}
-
-/// The bundle of a text, if it is of the form.
-#[tactic(auto, unfolding(crate::specs::Grammar::bundle_of))]
-fn bundle(alloc: Global, bytes: &[u8]) -> Result<Option<Bundle>, AllocError>
-    ensures value { IfOk result (λ bundle. bundle ≡ bundle_of (lines bytes.now)) }
-{
-    let Some((first, second, third, rest)) = three_lines(bytes) else {
-        return Ok(None);
+    let [first, rest @ ..] = tokens else {
+        return Ok(draft);
     };
-    let Some((slots, (fuel, out_max))) = head(first, second, third) else {
-        return Ok(None);
-    };
-    let Some(code) = code_words(alloc, rest)? else {
-        return Ok(None);
-    };
-    if code.len() > CODE_MAX {
-        return Ok(None);
+    if is_comment(first) {
+        return Ok(draft);
     }
-    let task = TaskText {
-        fuel,
-        out_max,
-        data_len: 0,
-        tape: Words::new(Vec::new(alloc)),
-        code: Code::Words(Words::new(code)),
-    };
-    let mut tasks = Vec::new(alloc);
-    tasks.push(task)?;
-    Ok(Some(Bundle {
-        slots,
-        tasks: Tasks::new(tasks),
-    }))
+    let word = word_named(first).ok_or(BundleKind::UnknownWord)?;
+    let place = place_after(draft.place, word).ok_or(BundleKind::Misplaced)?;
+    let mut draft = draft;
+    draft.place = place;
+    with_operands(alloc, word, number, draft, rest)
 }
 
-/// Reads a text of the strict form: the lines `bundle 1`, `slots N`, `task fuel F out O data 0`, any number of lines
-/// `words W ..` with at least one W, and `endtask`, each ended by LF, and nothing after. One blank, a space or a tab, stands
-/// between two tokens, and no other. N is from 1 to 8, F from 1 to 100,000, O from 0 to 4,096, each of one or more decimal
-/// digits. W is eight lower case hexadecimal digits, the word of an ADDI, ADD, LUI or ECALL; there are at most 4,096 in all.
-///
-/// Errors: `NotYet` exactly where the bytes are not of this form, and `Memory` where memory ran out; the line is 0.
+/// The draft with a line of code, or with its code ended.
+fn line_of_code(
+    alloc: Global,
+    draft: Draft,
+    line: &[u8],
+    tokens: &[&[u8]],
+) -> Result<Draft, BundleKind>
+    requires tokens { texts tokens.now ≡ tokens_of line.now }
+    ensures value { Says result (Ok (line_of_code draft line.now)) }
+{
+    let Draft { place, bundle, task } = draft;
+    if is_endcode(tokens) {
+        return Ok(Draft { place: Place::CodeEnd, bundle, task });
+    }
+    let TaskText { fuel, out_max, data_len, tape, code } = task;
+    let code = with_code_line(alloc, code, line)?;
+    let task = TaskText { fuel, out_max, data_len, tape, code };
+    Ok(Draft { place, bundle, task })
+}
+
+/// The draft with a line of this number.
+#[tactic(auto, unfolding(crate::specs::Lines::with_line))]
+fn with_line(alloc: Global, number: u32, draft: Draft, line: &[u8]) -> Result<Draft, BundleKind>
+    requires number { number < 2 ^ 32 - 1 }
+    ensures value { Says result (with_line number draft line.now) }
+{
+    if !is_text(line) {
+        return Err(BundleKind::NotText);
+    }
+    let found = tokens(alloc, line)?;
+    if is_in_code(draft.place) {
+        line_of_code(alloc, draft, line, found.as_slice())
+    } else {
+        line_of_tokens(alloc, number, draft, found.as_slice())
+    }
+}
+
+/// Reads a bundle. Errors: the first line that breaks the form, and by what; where lines are missing, the number of lines plus 1;
+/// where memory ran out, line 0.
 ///
 /// It takes time linear in the length of the text.
 pub fn read_bundle(alloc: Global, bytes: &[u8]) -> Result<Bundle, BundleFault>
     requires length { length bytes.now < 2 ^ 32 - 1 }
-    ensures read { IfOk result (λ bundle. Reads bytes.now bundle) }
-    ensures range { IfOk result IsInRange }
-    ensures fault { IfErr result (λ fault. Refuses fault bytes.now) }
 
-    // The same by the function that decides the form.
-    ensures decision { Answers result (bundle_of (lines bytes.now)) }
+    // The bundle that the text says, or its first fault.
+    ensures decision { Answers result (bundle_of bytes.now) }
 {
-    match bundle(alloc, bytes) {
-        Ok(Some(bundle)) => Ok(bundle),
-        Ok(None) => Err(BundleFault {
-            line: NO_LINE,
-            kind: BundleKind::NotYet,
-        }),
-        Err(_) => Err(BundleFault {
-            line: NO_LINE,
-            kind: BundleKind::Memory,
-        }),
+    let mut draft = no_lines(alloc);
+    let mut number: u32 = 1;
+    let mut rest = bytes;
+    while let Some((line, next)) = cut_line(rest) {
+        draft = match with_line(alloc, number, draft, line) {
+            Ok(draft) => draft,
+            Err(BundleKind::Memory) => return Err(out_of_memory()),
+            Err(kind) => return Err(BundleFault { line: number, kind }),
+        };
+        number += 1;
+        rest = next;
+    }
+    if may_end(draft.place) {
+        Ok(draft.bundle)
+    } else {
+        Err(BundleFault {
+            line: number,
+            kind: BundleKind::Missing,
+        })
+    }
+}
+
+/// The refusal for want of memory.
+fn out_of_memory() -> BundleFault
+    ensures line { result.line ≡ 0 }
+    ensures kind { result.kind ≡ BundleKind.Memory }
+{
+    BundleFault {
+        line: NO_LINE,
+        kind: BundleKind::Memory,
     }
 }

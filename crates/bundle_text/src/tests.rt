@@ -3,233 +3,140 @@
 use crate::{BundleFault, BundleKind, Code, read_bundle};
 use std::test::Fail;
 
-/// A text that is read: what it shows, the text, and its slots, fuel, greatest output and words.
-struct Read<'a> {
-    shows: &'a str,
-    text: &'a str,
-    slots: u32,
-    fuel: u32,
-    out_max: u32,
-    words: &'a [u32],
+/// A program that writes a word and exits.
+const FIVE_LINES: &str = "bundle 1\nslots 1\ntask fuel 5 out 4 data 0\nwords 02a00513 00100893 00000073 00000893 00000073\nendtask\n";
+
+/// The answer to the first bytes of these five lines: how many bytes, and the fault, if there is one.
+const PREFIXES: [(usize, Option<(u32, BundleKind)>); 17] = [
+    (0, Some((1, BundleKind::Missing))),
+    (3, Some((1, BundleKind::UnknownWord))),
+    (6, Some((1, BundleKind::Operands))),
+    (7, Some((1, BundleKind::Operands))),
+    (8, Some((2, BundleKind::Missing))),
+    (9, Some((2, BundleKind::Missing))),
+    (15, Some((2, BundleKind::Operands))),
+    (16, None),
+    (17, None),
+    (41, Some((4, BundleKind::Missing))),
+    (42, Some((4, BundleKind::Missing))),
+    (56, Some((5, BundleKind::Missing))),
+    (92, Some((5, BundleKind::Missing))),
+    (93, Some((5, BundleKind::Missing))),
+    (99, Some((5, BundleKind::UnknownWord))),
+    (100, None),
+    (101, None),
+];
+
+/// What each case shows, the lines after `bundle 1` and `slots 1`, and the fault.
+const REFUSED: [(&str, &str, u32, BundleKind); 42] = [
+    ("DEL", "\x7f", 3, BundleKind::NotText),
+    ("a byte outside the set in a comment", "#\x01", 3, BundleKind::NotText),
+    ("a byte outside the set in code", "task fuel 1 out 0 data 0\ncode\n\x00", 5, BundleKind::NotText),
+    ("another word", "plans", 3, BundleKind::UnknownWord),
+    ("upper case", "Plan 0 tail 1", 3, BundleKind::UnknownWord),
+    ("an unknown word where nothing may stand but endtask", "task fuel 1 out 0 data 0\ncode\nendcode\nx", 6, BundleKind::UnknownWord),
+    ("CR alone is no blank", "\r", 3, BundleKind::UnknownWord),
+    ("a second header", "bundle 1", 3, BundleKind::Misplaced),
+    ("words outside a task", "words", 3, BundleKind::Misplaced),
+    ("endcode outside code", "task fuel 1 out 0 data 0\nendcode", 4, BundleKind::Misplaced),
+    ("a plan after a task", "task fuel 1 out 0 data 0\nendtask\nplan 0 tail 1", 5, BundleKind::Misplaced),
+    ("words after code", "task fuel 1 out 0 data 0\ncode\nendcode\nwords", 6, BundleKind::Misplaced),
+    ("a tape after words", "task fuel 1 out 0 data 0\nwords\ntape", 5, BundleKind::Misplaced),
+    ("events after the order", "order\nevents", 4, BundleKind::Misplaced),
+    ("a plan without tail", "plan 0", 3, BundleKind::Operands),
+    ("a plan with a word other than quanta", "plan 0 tail 1 quantum", 3, BundleKind::Operands),
+    ("too few numbers before a bad one", "task fuel x out 0 data", 3, BundleKind::Operands),
+    ("out before fuel", "task out 0 fuel 1 data 0", 3, BundleKind::Operands),
+    ("a token after code", "task fuel 1 out 0 data 0\ncode 1", 4, BundleKind::Operands),
+    ("a token after endtask", "task fuel 1 out 0 data 0\nendtask #", 4, BundleKind::Operands),
+    ("a world without a secret", "world", 3, BundleKind::Operands),
+    ("a world of another length", "world 0 1 2\nworld x 1", 4, BundleKind::Operands),
+    ("a sign", "plan -1 tail 1", 3, BundleKind::BadNumber),
+    ("a hexadecimal tail", "plan 0 tail 0x1", 3, BundleKind::BadNumber),
+    ("no digits after 0x", "world 0 0x", 3, BundleKind::BadNumber),
+    ("nine characters of which one is no digit", "world 0 00000000g", 3, BundleKind::BadNumber),
+    ("an upper case X", "world 0 0X1", 3, BundleKind::BadNumber),
+    ("a bad number before one out of range", "task fuel x out 4097 data 0", 3, BundleKind::BadNumber),
+    ("hart 8", "plan 8 tail 1", 3, BundleKind::OutOfRange),
+    ("tail 0", "plan 0 tail 0", 3, BundleKind::OutOfRange),
+    ("tail 4097", "plan 0 tail 4097", 3, BundleKind::OutOfRange),
+    ("a quantum of 4097", "plan 0 tail 1 quanta 4096 4097", 3, BundleKind::OutOfRange),
+    ("a number out of range before a bad one", "task fuel 100001 out x data 0", 3, BundleKind::OutOfRange),
+    ("data 1025", "task fuel 1 out 0 data 1025", 3, BundleKind::OutOfRange),
+    ("nine digits", "world 0 000000001", 3, BundleKind::OutOfRange),
+    ("a secret of 2^32", "world 4294967296", 3, BundleKind::OutOfRange),
+    ("a second plan", "plan 7 tail 1\nplan 0 tail 1\nplan 7 tail 1", 5, BundleKind::Repeated),
+    ("a second plan after lines that say nothing", "plan 0 tail 1\n#\n\nplan 0 tail 2 quanta 1", 6, BundleKind::Repeated),
+    ("a second plan whose hart has a leading zero", "plan 0 tail 1\nplan 00 tail 1", 4, BundleKind::Repeated),
+    ("the head of a task alone", "task fuel 1 out 0 data 0", 4, BundleKind::Missing),
+    ("a tape and two lines that say nothing", "task fuel 1 out 0 data 0\ntape\n\n#", 7, BundleKind::Missing),
+    ("code that isn't ended", "task fuel 1 out 0 data 0\ncode\nendcode #\n", 6, BundleKind::Missing),
+];
+
+/// Checks the answer to a text.
+fn answers(rt: HostRuntime, shows: &str, text: &[u8], fault: Option<BundleFault>) {
+    assert!(rt; text.len() < 1000);
+    assert_eq!(rt; read_bundle(rt.alloc(), text).err(), fault, "{shows}");
 }
 
-const READ: [Read; 7] = [
-    Read {
-        shows: "a program that writes a word and exits",
-        text: "bundle 1\nslots 1\ntask fuel 5 out 4 data 0\nwords 02a00513 00100893 00000073 00000893 00000073\nendtask\n",
-        slots: 1,
-        fuel: 5,
-        out_max: 4,
-        words: &[0x02a00513, 0x00100893, 0x00000073, 0x00000893, 0x00000073],
-    },
-    Read {
-        shows: "no words",
-        text: "bundle 1\nslots 2\ntask fuel 1 out 0 data 0\nendtask\n",
-        slots: 2,
-        fuel: 1,
-        out_max: 0,
-        words: &[],
-    },
-    Read {
-        shows: "words on two lines, in their order",
-        text: "bundle 1\nslots 1\ntask fuel 1 out 0 data 0\nwords 00000013 00208033\nwords 00000073\nendtask\n",
-        slots: 1,
-        fuel: 1,
-        out_max: 0,
-        words: &[0x00000013, 0x00208033, 0x00000073],
-    },
-    Read {
-        shows: "a LUI with letters among its digits",
-        text: "bundle 1\nslots 1\ntask fuel 1 out 0 data 0\nwords abcdef37\nendtask\n",
-        slots: 1,
-        fuel: 1,
-        out_max: 0,
-        words: &[0xabcdef37],
-    },
-    Read {
-        shows: "tabs as blanks",
-        text: "bundle\t1\nslots\t1\ntask\tfuel\t1\tout\t0\tdata\t0\nwords\t00000073 00000073\nendtask\n",
-        slots: 1,
-        fuel: 1,
-        out_max: 0,
-        words: &[0x00000073, 0x00000073],
-    },
-    Read {
-        shows: "the greatest numbers",
-        text: "bundle 1\nslots 8\ntask fuel 100000 out 4096 data 0\nendtask\n",
-        slots: 8,
-        fuel: 100_000,
-        out_max: 4096,
-        words: &[],
-    },
-    Read {
-        shows: "leading zeros",
-        text: "bundle 01\nslots 007\ntask fuel 0000000000000000000000042 out 00 data 00\nendtask\n",
-        slots: 7,
-        fuel: 42,
-        out_max: 0,
-        words: &[],
-    },
-];
-
-/// Texts that are refused, each with what is wrong in it.
-const REFUSED: [(&str, &str); 33] = [
-    ("empty", ""),
-    ("one line end", "\n"),
-    (
-        "no last line end",
-        "bundle 1\nslots 1\ntask fuel 1 out 0 data 0\nendtask",
-    ),
-    (
-        "an empty line at the end",
-        "bundle 1\nslots 1\ntask fuel 1 out 0 data 0\nendtask\n\n",
-    ),
-    (
-        "an empty line within",
-        "bundle 1\n\nslots 1\ntask fuel 1 out 0 data 0\nendtask\n",
-    ),
-    (
-        "CR LF",
-        "bundle 1\r\nslots 1\r\ntask fuel 1 out 0 data 0\r\nendtask\r\n",
-    ),
-    (
-        "two blanks",
-        "bundle 1\nslots  1\ntask fuel 1 out 0 data 0\nendtask\n",
-    ),
-    (
-        "a blank first",
-        " bundle 1\nslots 1\ntask fuel 1 out 0 data 0\nendtask\n",
-    ),
-    (
-        "a blank last",
-        "bundle 1\nslots 1 \ntask fuel 1 out 0 data 0\nendtask\n",
-    ),
-    (
-        "a blank after endtask",
-        "bundle 1\nslots 1\ntask fuel 1 out 0 data 0\nendtask \n",
-    ),
-    (
-        "another version",
-        "bundle 2\nslots 1\ntask fuel 1 out 0 data 0\nendtask\n",
-    ),
-    (
-        "a word in upper case",
-        "Bundle 1\nslots 1\ntask fuel 1 out 0 data 0\nendtask\n",
-    ),
-    (
-        "no slots",
-        "bundle 1\nslots 0\ntask fuel 1 out 0 data 0\nendtask\n",
-    ),
-    (
-        "nine slots",
-        "bundle 1\nslots 9\ntask fuel 1 out 0 data 0\nendtask\n",
-    ),
-    (
-        "slots without a number",
-        "bundle 1\nslots\ntask fuel 1 out 0 data 0\nendtask\n",
-    ),
-    (
-        "no decimal number",
-        "bundle 1\nslots 0x1\ntask fuel 1 out 0 data 0\nendtask\n",
-    ),
-    (
-        "fuel 0",
-        "bundle 1\nslots 1\ntask fuel 0 out 0 data 0\nendtask\n",
-    ),
-    (
-        "fuel 100001",
-        "bundle 1\nslots 1\ntask fuel 100001 out 0 data 0\nendtask\n",
-    ),
-    (
-        "fuel 2^64 + 1",
-        "bundle 1\nslots 1\ntask fuel 18446744073709551617 out 0 data 0\nendtask\n",
-    ),
-    (
-        "out 4097",
-        "bundle 1\nslots 1\ntask fuel 1 out 4097 data 0\nendtask\n",
-    ),
-    (
-        "data 1",
-        "bundle 1\nslots 1\ntask fuel 1 out 0 data 1\nendtask\n",
-    ),
-    (
-        "out before fuel",
-        "bundle 1\nslots 1\ntask out 0 fuel 1 data 0\nendtask\n",
-    ),
-    (
-        "words without a word",
-        "bundle 1\nslots 1\ntask fuel 1 out 0 data 0\nwords\nendtask\n",
-    ),
-    (
-        "a word of 7 digits",
-        "bundle 1\nslots 1\ntask fuel 1 out 0 data 0\nwords 0000073\nendtask\n",
-    ),
-    (
-        "a word of 9 digits",
-        "bundle 1\nslots 1\ntask fuel 1 out 0 data 0\nwords 000000073\nendtask\n",
-    ),
-    (
-        "upper case digits",
-        "bundle 1\nslots 1\ntask fuel 1 out 0 data 0\nwords ABCDEF37\nendtask\n",
-    ),
-    (
-        "no instruction",
-        "bundle 1\nslots 1\ntask fuel 1 out 0 data 0\nwords 00000000\nendtask\n",
-    ),
-    (
-        "SUB",
-        "bundle 1\nslots 1\ntask fuel 1 out 0 data 0\nwords 40208033\nendtask\n",
-    ),
-    (
-        "a second task",
-        "bundle 1\nslots 1\ntask fuel 1 out 0 data 0\nendtask\ntask fuel 1 out 0 data 0\nendtask\n",
-    ),
-    (
-        "text after endtask",
-        "bundle 1\nslots 1\ntask fuel 1 out 0 data 0\nendtask\nevents g0\n",
-    ),
-    (
-        "slots before bundle",
-        "slots 1\nbundle 1\ntask fuel 1 out 0 data 0\nendtask\n",
-    ),
-    (
-        "words before the task",
-        "bundle 1\nslots 1\nwords 00000073\ntask fuel 1 out 0 data 0\nendtask\n",
-    ),
-    (
-        "no endtask",
-        "bundle 1\nslots 1\ntask fuel 1 out 0 data 0\nwords 00000073\n",
-    ),
-];
+#[test]
+fn first_bytes(rt: HostRuntime) {
+    for (count, fault) in &PREFIXES {
+        let fault = match fault {
+            Some((line, kind)) => Some(BundleFault {
+                line: *line,
+                kind: *kind,
+            }),
+            None => None,
+        };
+        answers(rt, "a prefix", &FIVE_LINES.as_bytes()[..*count], fault);
+    }
+}
 
 #[test]
-fn texts_of_the_form(rt: HostRuntime) -> Result<(), Fail> {
-    for case in &READ {
-        let shows = case.shows;
-        assert!(rt; case.text.len() < 1000);
-        let bundle = read_bundle(rt.alloc(), case.text.as_bytes())?;
-        assert_eq!(rt; bundle.slots, case.slots, "{shows}");
-        assert_eq!(rt; bundle.tasks.as_slice().len(), 1, "{shows}");
-        let task = &bundle.tasks.as_slice()[0];
-        assert_eq!(rt; task.fuel, case.fuel, "{shows}");
-        assert_eq!(rt; task.out_max, case.out_max, "{shows}");
-        assert_eq!(rt; task.data_len, 0, "{shows}");
-        assert!(rt; task.tape.is_empty(), "{shows}");
-        let Code::Words(words) = &task.code;
-        assert_eq!(rt; words.as_slice(), case.words, "{shows}");
+fn first_faults(rt: HostRuntime) -> Result<(), Fail> {
+    for (shows, lines, line, kind) in &REFUSED {
+        let mut text = Vec::from_slice(rt.alloc(), b"bundle 1\nslots 1\n")?;
+        text.extend_from_slice(lines.as_bytes())?;
+        let fault = BundleFault {
+            line: *line,
+            kind: *kind,
+        };
+        answers(rt, shows, text.as_slice(), Some(fault));
     }
     Ok(())
 }
 
 #[test]
-fn other_texts(rt: HostRuntime) {
-    for (shows, text) in &REFUSED {
-        assert!(rt; text.len() < 1000);
-        let answer = read_bundle(rt.alloc(), text.as_bytes()).err();
-        let not_yet = BundleFault {
-            line: 0,
-            kind: BundleKind::NotYet,
-        };
-        assert_eq!(rt; answer, Some(not_yet), "{shows}");
+fn a_whole_bundle(rt: HostRuntime) -> Result<(), Fail> {
+    let text = "# all kinds of lines\r\nbundle 01\n\n\tslots  3 \nplan 7 tail 4096 quanta 0 4096\nplan 0 tail 1 quanta\n\
+        task fuel 100000 out 4096 data 1024\ntape 0xFfffffff 1\ntape\ncode\nnop\r\nendcode # no\n endcode \nendtask\n\
+        task fuel 1 out 0 data 0\nwords 13\nwords 0x73\nendtask\nworld 4294967295 a\nworld 0 b\nevents\nevents g0*1048576 t7\norder 0*2 1";
+    assert!(rt; text.len() < 1000);
+    let bundle = read_bundle(rt.alloc(), text.as_bytes())?;
+    assert_eq!(rt; bundle.slots, 3);
+    assert_eq!(rt; bundle.plans.len(), 2);
+    assert_eq!(rt; bundle.plans.as_slice()[0].hart, 7);
+    assert_eq!(rt; bundle.plans.as_slice()[0].plan.quanta.as_slice(), [0, 4096].as_slice());
+    assert_eq!(rt; bundle.tasks.len(), 2);
+    let first = &bundle.tasks.as_slice()[0];
+    assert_eq!(rt; first.tape.as_slice(), [0xffff_ffff, 1].as_slice());
+    match &first.code {
+        Code::Text { first_line, lines } => {
+            assert_eq!(rt; *first_line, 11);
+            assert_eq!(rt; lines.len(), 2);
+            assert_eq!(rt; lines.as_slice()[0].as_slice(), b"nop".as_slice());
+            assert_eq!(rt; lines.as_slice()[1].as_slice(), b"endcode # no".as_slice());
+        }
+        Code::Words(_) => assert!(rt; false),
     }
+    match &bundle.tasks.as_slice()[1].code {
+        Code::Words(words) => assert_eq!(rt; words.as_slice(), [0x13, 0x73].as_slice()),
+        Code::Text { .. } => assert!(rt; false),
+    }
+    assert_eq!(rt; bundle.worlds.len(), 2);
+    assert_eq!(rt; bundle.events.len(), 2);
+    assert_eq!(rt; bundle.events.as_slice()[0].times, 1_048_576);
+    assert_eq!(rt; bundle.order.as_slice()[0].times, 2);
+    Ok(())
 }

@@ -1,14 +1,12 @@
--- Cut at the first byte that parts.
-use Rattle.std.proofs.Common.{◌≡◌, arith, true, get_or}
-use Rattle.std.proofs.lemmas.List.{take_rest}
-use Rattle.bundle_text.specs.Pieces.{is_line_end}
-use Rattle.bundle_text.proofs.Cut.{cut_some, cut_none}
+-- A line that has an end, and the lines of what follows it.
+use Rattle.std.proofs.Common.{◌∷◌, sym, ap, ◌∙◌}
+use Rattle.bundle_text.specs.Pieces.{lines}
+use Rattle.bundle_text.proofs.Splits.{lines-cut}
 use Rattle.bundle_text.proofs.pieces.cut_line.Goals as goal
 
-pub returns-then-b-eq-LINE_END-clause-pieces : goal.returns-then-b-eq-LINE_END-clause-pieces
-returns-then-b-eq-LINE_END-clause-pieces c =
-    let parts : is_line_end (get_or c.args.bytes.now c.loop-at.at 0) ≡ true = grind arith in
-    rw take_rest (cut_some is_line_end c.args.bytes.now c.loop-at.at (omega arith) parts c.loop-at.invariant)
-
-pub returns-clause-pieces : goal.returns-clause-pieces
-returns-clause-pieces c = cut_none is_line_end c.args.bytes.now (λ k lt. c.loop-at.invariant k (omega arith))
+pub returns-in-Some-clause-lines : goal.returns-in-Some-clause-lines
+returns-in-Some-clause-lines c =
+    let cut = c.cut_at_line_end in
+    let rest = c.in-Some.rest.now in
+    let pieces = rw c.in-Some.is at cut.ensures.pieces in
+    lines-cut c.args.bytes.now cut.result.0.now rest pieces ∙ ap (λ l. l ∷ lines rest) (sym c.without_cr.ensures.value)

@@ -1,7 +1,0 @@
--- The digits so far make a number, up to the cap.
-use Rattle.std.proofs.Common.{◌≡◌, ℕ, min, drop}
-use Rattle.bundle_text.specs.Numbers.{decimal_after}
-use Rattle.bundle_text.proofs.numbers.decimal.Given as goal
-
-abbrev pub invariant-loop-digit : goal.invariant-loop-digit
-invariant-loop-digit l = (n : ℕ) × (l.value ≡ min n 10000000000) × (decimal_after 0 l.text ≡ decimal_after n (drop l.digit-index l.text))
