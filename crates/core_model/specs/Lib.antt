@@ -1,2 +1,4 @@
 pub mod Plans
 pub mod Events
+pub mod Limits
+pub mod Loaded
