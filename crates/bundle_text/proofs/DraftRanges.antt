@@ -23,7 +23,7 @@ use Rattle.bundle_text.specs.declared.bundle.BundleKind.{BundleKind}
 use Rattle.bundle_text.specs.declared.bundle.BundleKind.TheVariants as kind
 use Rattle.bundle_text.specs.declared.bundle.TaskText.{TaskText}
 use Rattle.bundle_text.specs.declared.bundle.PlanText.{PlanText}
-use Rattle.bundle_text.specs.declared.bundle.World.{World}
+use Rattle.core_model.specs.declared.world.World.{World}
 use Rattle.bundle_text.specs.declared.bundle.Code.{Code}
 use Rattle.bundle_text.specs.declared.bundle.Code.TheVariants.{Words, Text}
 use Rattle.bundle_text.proofs.Steps.{same_ok, err_ok, then_ok, if_ok, else_ok, all_append, each_all}

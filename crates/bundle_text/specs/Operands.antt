@@ -7,7 +7,7 @@ use Rattle.bundle_text.specs.Numbers.{number_in, word_of}
 use Rattle.bundle_text.specs.declared.bundle.BundleKind.{BundleKind}
 use Rattle.bundle_text.specs.declared.bundle.BundleKind.TheVariants.{Operands}
 use Rattle.bundle_text.specs.declared.bundle.PlanText.{PlanText}
-use Rattle.bundle_text.specs.declared.bundle.World.{World}
+use Rattle.core_model.specs.declared.world.World.{World}
 
 -- what follows from a success; a refusal stays
 infixl 10 ◌>>=◌

@@ -10,7 +10,7 @@ use Rattle.bundle_text.specs.Form.{digit_char}
 use Rattle.bundle_text.specs.declared.bundle.Bundle.{Bundle}
 use Rattle.bundle_text.specs.declared.bundle.TaskText.{TaskText}
 use Rattle.bundle_text.specs.declared.bundle.PlanText.{PlanText}
-use Rattle.bundle_text.specs.declared.bundle.World.{World}
+use Rattle.core_model.specs.declared.world.World.{World}
 use Rattle.bundle_text.specs.declared.bundle.Code.{Code}
 use Rattle.bundle_text.specs.declared.bundle.Code.TheVariants.{Words, Text}
 

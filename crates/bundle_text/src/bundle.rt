@@ -2,8 +2,9 @@
 
 ghost use Rattle.std.specs.Prelude.{◌≡◌};
 
-use crate::items::Items;
-use core_model::{EventRun, OrderRun, Plan};
+pub use core_model::World;
+
+use core_model::{EventRun, Items, OrderRun, Plan};
 use isa_model::Words;
 use std::alloc::{AllocError, AllocFailed};
 use std::convert::From;
@@ -47,15 +48,6 @@ pub struct PlanText {
     pub hart: u32,
     /// Its quanta, each 0 to 4,096, and its tail, 1 to 4,096.
     pub plan: Plan,
-}
-
-/// A choice of the words that a task takes, and the secret that it shares.
-#[derive(Debug, Drop)]
-pub struct World {
-    /// The secret.
-    pub secret: u32,
-    /// The words.
-    pub tape: Words,
 }
 
 /// What the core runs.

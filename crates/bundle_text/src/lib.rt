@@ -4,7 +4,6 @@
 
 pub mod bundle;
 mod draft;
-pub mod items;
 pub mod laws;
 mod numbers;
 mod operands;
@@ -13,7 +12,7 @@ mod places;
 mod reading;
 
 pub use bundle::{Bundle, BundleFault, BundleKind, Code, Line, PlanText, TaskText, World};
-pub use items::Items;
+pub use core_model::Items;
 pub use reading::read_bundle;
 
 #[cfg(test)]

@@ -9,12 +9,12 @@ ghost use Rattle.bundle_text.specs.Range.{IsInRange};
 
 use crate::bundle::{Bundle, BundleFault, BundleKind, Code, Line, TaskText};
 use crate::draft::{Draft, Place, Word};
-use crate::items::Items;
 use crate::operands::{
     events, has_plan, one_number, order, plan_operands, task_operands, words, world_operands,
 };
 use crate::pieces::{cut_line, is_text, tokens};
 use crate::places::{is_in_code, may_end, place_after, word_named};
+use core_model::Items;
 use isa_model::Words;
 use std::alloc::{AllocError, Global};
 use std::mem;

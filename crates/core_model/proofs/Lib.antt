@@ -1,3 +1,4 @@
 mod TryBoard
 mod TryKernelWords
 mod TryRun
+mod Runs

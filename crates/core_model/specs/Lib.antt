@@ -4,3 +4,5 @@ pub mod Board
 pub mod Homes
 pub mod KernelText
 pub mod KernelWords
+pub mod Limits
+pub mod Loaded

@@ -1,6 +1,6 @@
 //! A list of values.
 
-ghost use Rattle.std.specs.Prelude.{◌≡◌, ◌==◌, List, [], ◌∷◌, ◌++◌, length, is_ok, if◌then◌else◌};
+ghost use Rattle.std.specs.Prelude.{◌≡◌, ◌==◌, List, [], ◌∷◌, ◌++◌, length, is_ok, if◌then◌else◌, IfOk};
 
 use std::alloc::{AllocError, AllocFailed, Global};
 use std::marker::Model;
@@ -79,5 +79,16 @@ impl<T: Drop> Items<T> {
         ensures items { self.new ≡ (if is_ok result then self.old ++ more.items else self.old) }
     {
         self.inner.append(&mut more)
+    }
+}
+
+impl<T: Copy> Items<T> {
+    /// The same values in memory of their own.
+    pub fn copy(&self, alloc: Global) -> Result<Items<T>, AllocError>
+        ensures same { IfOk result (λ items. items ≡ self.now) }
+    {
+        Ok(Items {
+            inner: Vec::from_slice(alloc, self.inner.as_slice())?,
+        })
     }
 }
