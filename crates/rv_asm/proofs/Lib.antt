@@ -1,0 +1,4 @@
+pub mod PlacesSeen
+pub mod Labels
+pub mod Reading
+pub mod LinkedLines
