@@ -2,3 +2,4 @@ pub mod PlacesSeen
 pub mod Labels
 pub mod Reading
 pub mod LinkedLines
+pub mod NoMemory
