@@ -3,3 +3,4 @@ pub mod Labels
 pub mod Reading
 pub mod LinkedLines
 pub mod NoMemory
+pub mod Whole
