@@ -4,3 +4,6 @@ pub mod Reading
 pub mod LinkedLines
 pub mod NoMemory
 pub mod Whole
+pub mod Printed
+pub mod Ended
+pub mod OnePerLine
