@@ -1,15 +1,14 @@
 -- No line is refused for want of memory.
-use Rattle.std.proofs.Common.{◌≡◌, ◌≢◌, ℕ, ◌+◌, ◌-◌, ◌^◌, Bool, true, false, if◌then◌else◌, List, [], ◌∷◌, ◌++◌, map, length, Vec, Option, Some, None, IfSome, IfErr, Result, Ok, Err, nat_lt, ℤ, refl, sym, ap, subst, ◌∙◌, arith, rules}
-use Rattle.std.specs.declared.alloc.Global.{Global}
+use Rattle.std.proofs.Common.{◌≡◌, ◌≢◌, ℕ, ◌+◌, ◌-◌, ◌^◌, Bool, true, false, if◌then◌else◌, List, [], ◌∷◌, ◌++◌, map, Option, Some, None, IfSome, IfErr, Result, Ok, Err, nat_lt, ℤ, refl}
 use Rattle.std.specs.List.{find, AllByRecursion}
 use Rattle.std.specs.Str.{bytes_eq}
 use Rattle.asm_line.specs.declared.line.AsmKind.{AsmKind}
 use Rattle.asm_line.specs.declared.line.AsmKind.TheVariants.{DuplicateLabel, UnknownWord, Operands, BadRegister, BadNumber, OutOfRange, TooManyWords, UnknownLabel, Memory}
 use Rattle.asm_line.specs.declared.line.Item.{Item}
 use Rattle.asm_line.specs.declared.line.Item.TheVariants.{Empty, One, Two, JumpTo, BranchTo}
-use Rattle.asm_line.specs.Numbers.{number_of, distance_of, is_within, is_even}
+use Rattle.asm_line.specs.Numbers.{number_of, distance_of, is_within}
 use Rattle.asm_line.specs.Names.{number_named, register_names, csr_names, is_name}
-use Rattle.asm_line.specs.Operands.{◌>>=◌, or_fault, register, in_range, number_in, unsigned_in, word_in, csr_named, csr, distance_in, target_or_label, target, with_operand, have_shapes, with_operands}
+use Rattle.asm_line.specs.Operands.{◌>>=◌, or_fault, register, in_range, number_in, unsigned_in, word_in, csr_named, csr, target_or_label, target, with_operand, have_shapes, with_operands}
 use Rattle.asm_line.specs.Table.{row_of, all_words, mnemonic_of}
 use Rattle.asm_line.specs.Fields.{no_fields}
 use Rattle.asm_line.specs.LineForm.{item_of_word, item_of, line_of}

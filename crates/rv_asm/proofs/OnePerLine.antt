@@ -1,5 +1,5 @@
 -- The lines of words assemble to the words.
-use Rattle.std.proofs.Common.{◌≡◌, ℕ, suc, ◌+◌, ◌^◌, ◌<◌, ◌≤◌, List, [], ◌∷◌, ◌++◌, map, length, get_or, Option, Some, None, IfSome, Result, Ok, Err, nat_lt, if◌then◌else◌, Fits, w32, refl, sym, ap, ◌∙◌, arith}
+use Rattle.std.proofs.Common.{◌≡◌, ℕ, suc, ◌+◌, ◌^◌, ◌<◌, ◌≤◌, List, [], ◌∷◌, ◌++◌, map, length, get_or, Option, Some, None, IfSome, Ok, if◌then◌else◌, Fits, w32, refl, ap, ◌∙◌, arith}
 use Rattle.std.specs.List.{range_with_len, AllByRecursion}
 use Rattle.std.proofs.Math.Facts.{Fits-lt-pow}
 use Rattle.std.proofs.lemmas.Bool.{le-ltb}
@@ -12,11 +12,10 @@ use Rattle.asm_line.specs.declared.line.Item.TheVariants.{One}
 use Rattle.asm_line.specs.declared.line.Line.{Line}
 use Rattle.asm_line.specs.LineForm.{line_of}
 use Rattle.asm_line.proofs.Forms.{reads_instr, reads_word}
-use Rattle.rv_asm.specs.declared.fault.AsmFault.{AsmFault}
 use Rattle.rv_asm.specs.declared.listing.Placed.{Placed}
 use Rattle.rv_asm.specs.Listing.{placed_from, place_of}
 use Rattle.rv_asm.specs.Refusals.{max_words, refusal_or, refusal_in_reading}
-use Rattle.rv_asm.specs.Assembly.{linked, words_then, read_then, assembled_of, Assembles}
+use Rattle.rv_asm.specs.Assembly.{linked, words_then, read_then, Assembles}
 use Rattle.rv_asm.specs.Disassembly.{line_text, line_of_word, lines_of_words, one_per_line}
 
 -- numbers of 32 bits

@@ -1,8 +1,8 @@
 -- What is written of words are printed bytes: none of them ends a line.
-use Rattle.std.proofs.Common.{◌≡◌, ◌≢◌, ℕ, zero, suc, ◌+◌, ◌/◌, ◌%◌, ◌^◌, ◌<◌, ◌≤◌, Bool, true, false, ◌&&◌, ◌==◌, cond, eqb, leb, nat_le, List, [], ◌∷◌, ◌++◌, length, get_or, codes, Option, Some, None, IfSome, ℤ, pos, negsuc, refl, sym, ap, ◌∙◌, arith}
+use Rattle.std.proofs.Common.{◌≡◌, ℕ, zero, suc, ◌+◌, ◌/◌, ◌%◌, ◌^◌, ◌<◌, Bool, true, false, eqb, leb, nat_le, List, [], ◌∷◌, ◌++◌, codes, Option, Some, None, IfSome, ℤ, pos, negsuc, refl, ◌∙◌, arith}
 use Rattle.std.specs.Fmt.{decimal, signed_decimal, digit_glyph}
-use Rattle.std.specs.List.{list_any, list_all, join_with_byte, AllByRecursion}
-use Rattle.std.proofs.lemmas.Bool.{agree_below_at, leb-true, le-leb, and_parts, and_from, or_from, ne_eqb, cond_both}
+use Rattle.std.specs.List.{list_all, join_with_byte, AllByRecursion}
+use Rattle.std.proofs.lemmas.Bool.{agree_below_at, leb-true, le-leb, and_parts, and_from, cond_both}
 use Rattle.std.proofs.lemmas.List.Folds.{list_all-append}
 use Rattle.isa_model.specs.declared.instr.Cmp.{Cmp}
 use Rattle.isa_model.specs.declared.instr.Cmp.TheVariants.{Beq, Bne, Blt, Bge, Bltu, Bgeu}
@@ -24,7 +24,7 @@ use Rattle.rv_decode.specs.Mnemonics.{branch_name, load_name, store_name, regist
 use Rattle.rv_decode.specs.Text.{hex_digits, register_text, target_text, address_text, csr_text, word_text, instr_line, text_of_instr}
 use Rattle.asm_line.specs.Numbers.{is_decimal_digit}
 use Rattle.asm_line.proofs.Written.{decimal_text, in_32}
-use Rattle.rv_asm.specs.Disassembly.{line_text, line_of_word, lines_of_words}
+use Rattle.rv_asm.specs.Disassembly.{line_text, lines_of_words}
 
 -- from the blank on
 abbrev pub is_printed : ℕ → Bool

@@ -1,15 +1,14 @@
 -- Lines that are read one by one.
-use Rattle.std.proofs.Common.{◌≡◌, ℕ, ◌+◌, ◌<◌, ◌≤◌, Bool, true, false, cond, nat_lt, List, [], ◌∷◌, ◌++◌, map, length, get_or, drop, Vec, Option, Some, None, Result, Ok, Err, is_some, if◌then◌else◌, true≢false, refl, sym, ap, subst, ◌∙◌, arith, rules}
-use Rattle.std.proofs.lemmas.List.{append_assoc, append-nil, drop_more}
+use Rattle.std.proofs.Common.{◌≡◌, ℕ, ◌+◌, ◌<◌, ◌≤◌, Bool, true, false, nat_lt, List, [], ◌∷◌, ◌++◌, map, length, get_or, drop, Vec, Option, Some, None, Result, Ok, Err, is_some, if◌then◌else◌, true≢false, sym, ap, subst, ◌∙◌, arith}
+use Rattle.std.proofs.lemmas.List.{append_assoc, drop_more}
 use Rattle.std.proofs.lemmas.Bool.Decides.{nat_tests}
 use Rattle.std.specs.declared.alloc.Global.{Global}
 use Rattle.asm_line.specs.declared.line.AsmKind.{AsmKind}
 use Rattle.asm_line.specs.declared.line.AsmKind.TheVariants.{DuplicateLabel, TooManyWords}
 use Rattle.asm_line.specs.declared.line.Item.{Item}
 use Rattle.asm_line.specs.LineForm.{line_of}
-use Rattle.rv_asm.specs.declared.fault.AsmFault.{AsmFault}
 use Rattle.rv_asm.specs.declared.listing.Placed.{Placed}
-use Rattle.rv_asm.specs.Listing.{texts, word_count, placed_from, placed_lines}
+use Rattle.rv_asm.specs.Listing.{texts, word_count, placed_from}
 use Rattle.rv_asm.specs.Refusals.{max_words, repeats, kind_of_item, kind_in_reading, refusal_or, refusal_in_reading}
 use Rattle.rv_asm.specs.Places.{names, at_place, label_places}
 use Rattle.rv_asm.proofs.Labels.{names-append-at_place, label_places-push}
@@ -64,7 +63,7 @@ after_line lines first_line listing places number place text left so_far accepte
     record {
       lines = so_far.lines ∙ sym (append_assoc listing (p ∷ []) later);
       refusal = so_far.refusal ∙ ap (λ kind. refusal_or number kind (refusal_in_reading (names places ++ p.line.labels) later)) accepted
-      ∙ ap (λ seen. refusal_in_reading seen later) (sym (names-append-at_place places place p.line.labels));
+          ∙ ap (λ seen. refusal_in_reading seen later) (sym (names-append-at_place places place p.line.labels));
       places = ap (λ ps. ps ++ at_place place p.line.labels) so_far.places ∙ sym (label_places-push listing p);
       room = room_of_line (names places) p accepted;
     }

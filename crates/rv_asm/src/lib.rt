@@ -14,3 +14,6 @@ pub use asm_line::AsmKind;
 pub use assembling::{Assembled, assemble};
 pub use disassembling::disassemble;
 pub use fault::AsmFault;
+
+#[cfg(test)]
+mod tests;

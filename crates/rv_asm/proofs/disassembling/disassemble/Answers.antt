@@ -1,8 +1,7 @@
 -- Printed lines, each of which is read as its word.
 use Rattle.std.proofs.Common.{ap, ◌∙◌, take_all}
-use Rattle.std.specs.Str.Lines.{lines}
 use Rattle.rv_asm.specs.Assembly.{assembly}
-use Rattle.rv_asm.specs.Disassembly.{lines_of_words, listing_of, one_per_line}
+use Rattle.rv_asm.specs.Disassembly.{listing_of}
 use Rattle.rv_asm.proofs.Ended.{lines-listing}
 use Rattle.rv_asm.proofs.OnePerLine.{all_words, lines_assemble}
 use Rattle.rv_asm.proofs.disassembling.disassemble.Goals as goal

@@ -1,7 +1,5 @@
 -- One line more.
-use Rattle.std.proofs.Common.{◌≡◌, ◌+◌, ◌++◌, ◌∷◌, [], Vec, ℕ, sym, ap, ◌∙◌}
-use Rattle.rv_asm.specs.declared.listing.Placed.{Placed}
-use Rattle.rv_asm.specs.Listing.{word_count}
+use Rattle.std.proofs.Common.{◌≡◌, ◌+◌, ap, ◌∙◌}
 use Rattle.rv_asm.proofs.Reading.{after_line_at, next_placed}
 use Rattle.asm_line.specs.LineForm.{line_of}
 use Rattle.rv_asm.proofs.listing.read_listing.Goals as goal
