@@ -113,9 +113,13 @@ fn a_task_alone(rt: HostRuntime) -> Result<(), Fail> {
 fn tasks_by_themselves(rt: HostRuntime) -> Result<(), Fail> {
     let input = joined(
         rt.alloc(),
-        &[FORTY_TWO, "task fuel 1 out 0 data 0\ncode\nj .+0\nendcode\nendtask\n"],
+        &[
+            FORTY_TWO,
+            "task fuel 1 out 0 data 0\ncode\nj .+0\nendcode\nendtask\n",
+        ],
     )?;
-    let report = "task 0: exited 0000002a count 5\nout 0: 0000002a\ntask 1: out-of-steps count 1\nout 1:\n";
+    let report =
+        "task 0: exited 0000002a count 5\nout 0: 0000002a\ntask 1: out-of-steps count 1\nout 1:\n";
     writes(&rt, "alone", input.as_slice(), 0, report)?;
     let listing = "\
 task 0
@@ -154,7 +158,13 @@ const PREFIXES: [(usize, u8, &str); 17] = [
 #[test]
 fn a_bundle_cut_short(rt: HostRuntime) -> Result<(), Fail> {
     for (kept, number, written) in &PREFIXES {
-        writes(&rt, "alone", &FORTY_TWO.as_bytes()[..*kept], *number, written)?;
+        writes(
+            &rt,
+            "alone",
+            &FORTY_TWO.as_bytes()[..*kept],
+            *number,
+            written,
+        )?;
     }
     Ok(())
 }

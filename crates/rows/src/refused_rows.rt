@@ -4,7 +4,7 @@ use crate::harness::{joined, writes};
 use std::test::Fail;
 
 /// The lines of code of a task, of which the first is line 5, and what refuses them.
-const CODE: [(&str, &str); 36] = [
+const CODE: [(&str, &str); 38] = [
     ("addz x1,x0,1", "line 5: asm unknown word\n"),
     ("NOP", "line 5: asm unknown word\n"),
     ("j.+8", "line 5: asm unknown word\n"),
@@ -38,9 +38,17 @@ const CODE: [(&str, &str); 36] = [
     ("csrrs x1,4096,x0", "line 5: asm out of range\n"),
     ("a: nop\na: nop", "line 6: asm duplicate label\n"),
     ("a: a: addz", "line 5: asm duplicate label\n"),
-    ("nop\n\nb:\tnop\n# b:\nb: lui", "line 9: asm duplicate label\n"),
+    (
+        "nop\n\nb:\tnop\n# b:\nb: lui",
+        "line 9: asm duplicate label\n",
+    ),
     ("j a\naddz x1", "line 6: asm unknown word\n"),
     ("j a\na: j b\n", "line 6: asm unknown label\n"),
+    ("jal x1,a # a:", "line 5: asm unknown label\n"),
+    (
+        "beqz x1,_nowhere\nj nowhere\nnowhere:",
+        "line 5: asm unknown label\n",
+    ),
 ];
 
 #[test]
@@ -59,18 +67,61 @@ fn code_that_is_refused(rt: HostRuntime) -> Result<(), Fail> {
     Ok(())
 }
 
+/// How often a line of code stands, the lines after it, and what `alone` writes.
+const LONG: [(usize, &str, u8, &str); 5] = [
+    (
+        4096,
+        "a: # no word\n",
+        0,
+        "task 0: out-of-steps count 1\nout 0:\n",
+    ),
+    (4096, "nop\n", 3, "line 4101: asm too many words\n"),
+    (4095, "li x1,4097\n", 3, "line 4100: asm too many words\n"),
+    (4096, "a: a: nop\n", 3, "line 4101: asm duplicate label\n"),
+    (
+        4096,
+        "\n.word 1\naddz\n",
+        3,
+        "line 4102: asm too many words\n",
+    ),
+];
+
+#[test]
+fn code_that_is_long(rt: HostRuntime) -> Result<(), Fail> {
+    for (times, lines, number, written) in &LONG {
+        let alloc = rt.alloc();
+        let mut input = joined(
+            alloc,
+            &["bundle 1\nslots 1\ntask fuel 1 out 0 data 0\ncode\n"],
+        )?;
+        for _ in 0..*times {
+            input.extend_from_slice(b"nop\n")?;
+        }
+        input.extend_from_slice(lines.as_bytes())?;
+        input.extend_from_slice(b"endcode\nendtask\n")?;
+        writes(&rt, "alone", input.as_slice(), *number, written)?;
+    }
+    Ok(())
+}
+
 /// The lines after `bundle 1` and `slots 1`, and what refuses them.
 const BUNDLES: [(&str, &str); 38] = [
     ("# \x7f", "line 3: not text\n"),
     ("events\x00", "line 3: not text\n"),
-    ("task fuel 1 out 0 data 0\ncode\nnop \x01\nendcode", "line 5: not text\n"),
+    (
+        "task fuel 1 out 0 data 0\ncode\nnop \x01\nendcode",
+        "line 5: not text\n",
+    ),
     ("plans", "line 3: unknown word\n"),
-    ("\r\n\r", "line 4: unknown word\n"),
+    ("\r\n\r x", "line 4: unknown word\n"),
     ("Task fuel 1 out 0 data 0", "line 3: unknown word\n"),
     ("slots 1", "line 3: misplaced\n"),
     ("words", "line 3: misplaced\n"),
     ("order\nplan 0 tail 1", "line 4: misplaced\n"),
-    ("task fuel 1 out 0 data 0\ncode\nendcode\ncode", "line 6: misplaced\n"),
+    (
+        "task fuel 1 out 0 data 0\ncode\nendcode\ncode",
+        "line 6: misplaced\n",
+    ),
     ("plan 0", "line 3: operands\n"),
     ("task fuel x out 0 data", "line 3: operands\n"),
     ("world 0 1\n\tworld 1 1 2", "line 4: operands\n"),
@@ -83,22 +134,43 @@ const BUNDLES: [(&str, &str); 38] = [
     ("plan 8 tail 1", "line 3: out of range\n"),
     ("plan 0 tail 4097", "line 3: out of range\n"),
     ("plan 0 tail 0", "line 3: out of range\n"),
-    ("plan 7 tail 4096 quanta 0 4096 4097", "line 3: out of range\n"),
+    (
+        "plan 7 tail 4096 quanta 0 4096 4097",
+        "line 3: out of range\n",
+    ),
     ("task fuel 0 out 0 data 0", "line 3: out of range\n"),
     ("task fuel 100001 out 0 data 0", "line 3: out of range\n"),
     ("task fuel 100000 out 4097 data 0", "line 3: out of range\n"),
     ("task fuel 1 out 4096 data 1025", "line 3: out of range\n"),
-    ("task fuel 1 out 0 data 1024\ntape ffffffff 100000000", "line 4: out of range\n"),
+    (
+        "task fuel 1 out 0 data 1024\ntape ffffffff 100000000",
+        "line 4: out of range\n",
+    ),
     ("world 4294967296", "line 3: out of range\n"),
     ("events g0*1048576 t7*1048577", "line 3: out of range\n"),
     ("order 7 8", "line 3: out of range\n"),
-    ("plan 0 tail 1\nplan 1 tail 1\nplan 0 tail 2", "line 5: repeated\n"),
-    ("plan 7 tail 1\n\n# seven\nplan 7 tail 1 quanta", "line 6: repeated\n"),
+    (
+        "plan 0 tail 1\nplan 1 tail 1\nplan 0 tail 2",
+        "line 5: repeated\n",
+    ),
+    (
+        "plan 7 tail 1\n\n# seven\nplan 7 tail 1 quanta",
+        "line 6: repeated\n",
+    ),
     ("plan 0 tail 1\nplan 00 tail 1", "line 4: repeated\n"),
     ("task fuel 1 out 0 data 0", "line 4: missing\n"),
-    ("task fuel 1 out 0 data 0\ncode\nendcode x\nendtask", "line 7: missing\n"),
-    ("task fuel 1 out 0 data 0\nendtask\nevents g0*1048576 g1", "limit events 1048577\n"),
-    ("task fuel 1 out 0 data 0\nendtask\norder 0*1048576 1*2", "limit order 1048578\n"),
+    (
+        "task fuel 1 out 0 data 0\ncode\nendcode x\nendtask",
+        "line 7: missing\n",
+    ),
+    (
+        "task fuel 1 out 0 data 0\nendtask\nevents g0*1048576 g1",
+        "limit events 1048577\n",
+    ),
+    (
+        "task fuel 1 out 0 data 0\nendtask\norder 0*1048576 1*2",
+        "limit order 1048578\n",
+    ),
 ];
 
 #[test]
@@ -114,8 +186,20 @@ fn bundles_that_are_refused(rt: HostRuntime) -> Result<(), Fail> {
 fn heads_that_are_refused(rt: HostRuntime) -> Result<(), Fail> {
     writes(&rt, "alone", b"bundle x", 3, "line 1: bad number\n")?;
     writes(&rt, "alone", b"bundle 2", 3, "line 1: out of range\n")?;
-    writes(&rt, "asm", b"bundle 01\nslots 9", 3, "line 2: out of range\n")?;
+    writes(
+        &rt,
+        "asm",
+        b"bundle 01\nslots 9",
+        3,
+        "line 2: out of range\n",
+    )?;
     writes(&rt, "asm", b"slots 1\n", 3, "line 1: misplaced\n")?;
-    writes(&rt, "asm", b"bundle 1\nslots 1\r", 3, "line 2: bad number\n")?;
+    writes(
+        &rt,
+        "asm",
+        b"bundle 1\nslots 1\r",
+        3,
+        "line 2: bad number\n",
+    )?;
     writes(&rt, "asm", b"# only\n\n\t \n", 3, "line 4: missing\n")
 }
