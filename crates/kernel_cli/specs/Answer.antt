@@ -34,8 +34,8 @@ input_limit = 4194304
 abbrev pub harts : ℕ
 harts = 8
 
-abbrev pub bad_words : Answer
-bad_words = record { status = BadWords; text = codes "bad words\n" }
+abbrev pub words_refused : Answer
+words_refused = record { status = BadWords; text = codes "bad words\n" }
 
 -- the input is refused with this line
 abbrev pub refused : List ℕ → Answer
@@ -61,5 +61,5 @@ abbrev pub input_answer : Command → List ℕ → Answer
 input_answer command bytes = if nat_lt input_limit (length bytes) then too_large else bundle_answer command (bundle_of bytes)
 
 abbrev pub answer_of : Option Command → List ℕ → Answer
-answer_of None bytes = bad_words
+answer_of None bytes = words_refused
 answer_of (Some command) bytes = input_answer command bytes
