@@ -2,15 +2,21 @@
 -- statuses exactly where it comes:
 --
 -- - BadWords, with `bad words`: exactly where there is no command.
--- - BadInput, with `too large`: exactly where the input has more bytes than the limit.
--- - BadInput, with `not yet`: exactly where it has no more, and isn't of the form of a bundle.
--- - Fine, with the report: everywhere else.
-use Rattle.std.specs.Prelude.{ℕ, List, Option, Some, None, codes, length, nat_lt, if◌then◌else◌}
-use Rattle.bundle_text.specs.Pieces.{lines}
-use Rattle.bundle_text.specs.Grammar.{bundle_of}
+-- - BadInput: exactly where the input is refused. In this order, `too large` where it has more bytes than the limit; a line that
+--   isn't of the form of a bundle; a line of code that doesn't assemble; a number outside its limits; a plan for a hart that
+--   isn't there; a run that may be too long.
+-- - Fine, with the text of the command: everywhere else.
+use Rattle.std.specs.Prelude.{ℕ, List, Option, Some, None, Result, Ok, Err, codes, length, nat_lt, if◌then◌else◌}
+use Rattle.core_model.specs.declared.loaded.Loaded.{Loaded}
+use Rattle.bundle_text.specs.Lines.{bundle_of}
 use Rattle.bundle_text.specs.declared.bundle.Bundle.{Bundle}
+use Rattle.bundle_text.specs.declared.bundle.BundleFault.{BundleFault}
+use Rattle.rv_loader.specs.declared.fault.LoadFault.{LoadFault}
+use Rattle.rv_loader.specs.Loading.{loading_of}
 use Rattle.report_text.specs.AloneReport.{alone_report_of}
+use Rattle.report_text.specs.AsmListing.{asm_text_of}
 use Rattle.kernel_cli.specs.AloneTasks.{ends_of}
+use Rattle.kernel_cli.specs.Refusals.{bundle_refusal, load_refusal}
 use Rattle.kernel_cli.specs.declared.command.Command.{Command}
 use Rattle.kernel_cli.specs.declared.command.Command.TheVariants as commands
 use Rattle.kernel_cli.specs.declared.status.Status.{Status}
@@ -24,23 +30,36 @@ pub record Answer : Type 0 where
 abbrev pub input_limit : ℕ
 input_limit = 4194304
 
-abbrev pub bad_words : Answer
-bad_words = record { status = BadWords; text = codes "bad words\n" }
+-- how many harts a bundle is loaded for
+abbrev pub harts : ℕ
+harts = 8
+
+abbrev pub words_refused : Answer
+words_refused = record { status = BadWords; text = codes "bad words\n" }
+
+-- the input is refused with this line
+abbrev pub refused : List ℕ → Answer
+refused text = record { status = BadInput; text = text }
 
 abbrev pub too_large : Answer
-too_large = record { status = BadInput; text = codes "too large\n" }
+too_large = refused (codes "too large\n")
 
-abbrev pub not_yet : Answer
-not_yet = record { status = BadInput; text = codes "not yet\n" }
+-- what a command writes of a loaded bundle
+abbrev pub text_of_command : Command → Loaded → List ℕ
+text_of_command commands.Alone loaded = alone_report_of (ends_of loaded.tasks)
+text_of_command commands.Asm loaded = asm_text_of loaded.tasks
 
--- the tasks of a bundle, each by itself
-abbrev pub bundle_answer : Option Bundle → Answer
-bundle_answer None = not_yet
-bundle_answer (Some bundle) = record { status = Fine; text = alone_report_of (ends_of bundle.tasks) }
+abbrev pub loaded_answer : Command → Result Loaded LoadFault → Answer
+loaded_answer command (Ok loaded) = record { status = Fine; text = text_of_command command loaded }
+loaded_answer command (Err fault) = refused (load_refusal fault)
 
-abbrev pub alone_answer : List ℕ → Answer
-alone_answer bytes = if nat_lt input_limit (length bytes) then too_large else bundle_answer (bundle_of (lines bytes))
+abbrev pub bundle_answer : Command → Result Bundle BundleFault → Answer
+bundle_answer command (Ok bundle) = loaded_answer command (loading_of bundle harts)
+bundle_answer command (Err fault) = refused (bundle_refusal fault)
+
+abbrev pub input_answer : Command → List ℕ → Answer
+input_answer command bytes = if nat_lt input_limit (length bytes) then too_large else bundle_answer command (bundle_of bytes)
 
 abbrev pub answer_of : Option Command → List ℕ → Answer
-answer_of None bytes = bad_words
-answer_of (Some commands.Alone) bytes = alone_answer bytes
+answer_of None bytes = words_refused
+answer_of (Some command) bytes = input_answer command bytes

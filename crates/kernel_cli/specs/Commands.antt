@@ -2,13 +2,21 @@
 use Rattle.std.specs.Prelude.{◌≡◌, ℕ, List, [], ◌∷◌, Option, Some, None, codes, if◌then◌else◌}
 use Rattle.std.specs.Str.{bytes_eq}
 use Rattle.kernel_cli.specs.declared.command.Command.{Command}
-use Rattle.kernel_cli.specs.declared.command.Command.TheVariants.{Alone}
+use Rattle.kernel_cli.specs.declared.command.Command.TheVariants.{Alone, Asm}
 
 -- The words spell this command. Each command has one spelling.
 abbrev pub SpellsCommand : List (List ℕ) → Command → Type 0
 SpellsCommand words Alone = words ≡ codes "alone" ∷ []
+SpellsCommand words Asm = words ≡ codes "asm" ∷ []
+
+-- the command of one word
+abbrev pub command_named : List ℕ → Option Command
+command_named word =
+    if bytes_eq word (codes "alone") then Some Alone
+    else if bytes_eq word (codes "asm") then Some Asm
+    else None
 
 -- the command of the words, if they spell one
 abbrev pub command_of : List (List ℕ) → Option Command
-command_of (word ∷ []) = if bytes_eq word (codes "alone") then Some Alone else None
+command_of (word ∷ []) = command_named word
 command_of _ = None

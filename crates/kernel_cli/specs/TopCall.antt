@@ -5,7 +5,7 @@ use Rattle.io_edge.specs.Causes.{Rose, ConsumesAtMost}
 use Rattle.kernel_cli.specs.declared.command.Command.{Command}
 use Rattle.kernel_cli.specs.declared.status.Status.{Status}
 use Rattle.kernel_cli.specs.declared.status.Status.TheVariants.{Fine, BadWords, BadInput, ReadFault, WriteFault, Memory}
-use Rattle.kernel_cli.specs.Answer.{answer_of, bad_words, input_limit}
+use Rattle.kernel_cli.specs.Answer.{answer_of, words_refused, input_limit}
 use Rattle.kernel_cli.specs.Statuses.{IsRefusal}
 
 -- The bytes are those that were left, where the source tells them.
@@ -29,7 +29,7 @@ WritesOrFails asked held held' faults faults' text status =
 
 -- Known bytes grow by a part of the answer's text. That of words that are no command doesn't hang on the source.
 abbrev pub BeginsToAnswer : Option Command → Option (List ℕ) → Option (List ℕ) → Option (List ℕ) → Type 0
-BeginsToAnswer None left held held' = AppendsPart held held' bad_words.text
+BeginsToAnswer None left held held' = AppendsPart held held' words_refused.text
 BeginsToAnswer (Some command) left held held' =
     (bytes : List ℕ) × WereLeft bytes left × AppendsPart held held' (answer_of (Some command) bytes).text
 
@@ -47,7 +47,7 @@ pub record IsAnswered {S K : Type 0} (left : S → Option (List ℕ)) (read_faul
     (command : Option Command) (src src' : S) (sink sink' : K) (status : Status) : Type 0 where
   -- words that are no command are refused before the source is touched
   pub refused : command ≡ None → (src' ≡ src) × IsRefusal status
-  pub bad_words : status ≡ BadWords → (command ≡ None) × Appends (held sink) (held sink') bad_words.text
+  pub bad_words : status ≡ BadWords → (command ≡ None) × Appends (held sink) (held sink') words_refused.text
   -- the answer is written, and the source was read to its end, but for input that is too large
   pub fine : status ≡ Fine → IsAtEnd (left src') × Answers command Fine (left src) (held sink) (held sink')
   pub bad_input : status ≡ BadInput → WasRead (left src) (left src') × Answers command BadInput (left src) (held sink) (held sink')

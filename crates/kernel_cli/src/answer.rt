@@ -1,16 +1,24 @@
 //! The answers to commands.
 
 ghost use Rattle.std.specs.Prelude.{◌≡◌, ◌≤◌, length, IfOk};
-ghost use Rattle.bundle_text.specs.Pieces.{lines};
-ghost use Rattle.bundle_text.specs.Grammar.{bundle_of};
-ghost use Rattle.kernel_cli.specs.Answer.{bundle_answer, input_limit};
+ghost use Rattle.core_model.specs.Loaded.{IsLoaded};
+ghost use Rattle.bundle_text.specs.Lines.{bundle_of};
+ghost use Rattle.bundle_text.specs.Range.{IsInRange};
+ghost use Rattle.rv_loader.specs.Loading.{loading_of};
+ghost use Rattle.kernel_cli.specs.Answer.{text_of_command, loaded_answer, bundle_answer, harts, input_limit};
 ghost use Rattle.kernel_cli.specs.Outcome.{status_of, IsAnswer};
 
+use crate::command::Command;
+use crate::refusals::{bundle_refusal, load_refusal};
 use crate::status::Status;
 use crate::tasks::ends;
-use bundle_text::{BundleKind, read_bundle};
-use report_text::alone_report;
+use bundle_text::{Bundle, BundleKind, read_bundle};
+use report_text::{alone_report, asm_text};
+use rv_loader::{LoadFault, Loaded, load};
 use std::alloc::{AllocError, Global};
+
+/// How many harts a bundle is loaded for.
+const HARTS: u32 = 8;
 
 /// What came of the input.
 #[derive(Clone, Copy, Debug, PartialEq, Eq)]
@@ -38,25 +46,53 @@ pub(crate) struct Made {
     pub(crate) text: Vec<u8>,
 }
 
-/// The answer to `alone` over input within the limit.
-pub(crate) fn answer_alone(alloc: Global, bytes: &[u8]) -> Result<Made, AllocError>
+/// What a command writes of a loaded bundle.
+fn text_of(alloc: Global, command: Command, loaded: &Loaded) -> Result<Vec<u8>, AllocError>
+    requires loaded { IsLoaded loaded.now }
+    ensures text { IfOk result (λ text. text.items ≡ text_of_command command loaded.now) }
+{
+    match command {
+        Command::Alone => {
+            let ends = ends(alloc, loaded.tasks.as_slice())?;
+            alone_report(alloc, ends.as_slice())
+        }
+        Command::Asm => asm_text(alloc, loaded.tasks.as_slice()),
+    }
+}
+
+/// The answer to a command over a bundle.
+fn answer_bundle(alloc: Global, command: Command, bundle: &Bundle) -> Result<Made, AllocError>
+    requires range { IsInRange bundle.now }
+    ensures answer { IfOk result (λ made. IsAnswer made (loaded_answer command (loading_of bundle.now harts))) }
+{
+    match load(alloc, bundle, HARTS) {
+        Ok(loaded) => Ok(Made {
+            outcome: Outcome::Fine,
+            text: text_of(alloc, command, &loaded)?,
+        }),
+        Err(LoadFault::Memory) => Err(AllocError),
+        Err(fault) => Ok(Made {
+            outcome: Outcome::BadInput,
+            text: load_refusal(alloc, &fault)?.into_bytes(),
+        }),
+    }
+}
+
+/// The answer to a command over input within the limit.
+pub(crate) fn answer(alloc: Global, command: Command, bytes: &[u8]) -> Result<Made, AllocError>
     requires limit { length bytes.now ≤ input_limit }
-    ensures answer { IfOk result (λ made. IsAnswer made (bundle_answer (bundle_of (lines bytes.now)))) }
+    ensures answer { IfOk result (λ made. IsAnswer made (bundle_answer command (bundle_of bytes.now))) }
 {
     match read_bundle(alloc, bytes) {
-        Ok(bundle) => {
-            let ends = ends(alloc, bundle.tasks.as_slice())?;
+        Ok(bundle) => answer_bundle(alloc, command, &bundle),
+        Err(fault) => {
+            if fault.kind == BundleKind::Memory {
+                return Err(AllocError);
+            }
             Ok(Made {
-                outcome: Outcome::Fine,
-                text: alone_report(alloc, ends.as_slice())?,
+                outcome: Outcome::BadInput,
+                text: bundle_refusal(alloc, &fault)?.into_bytes(),
             })
         }
-        Err(fault) => match fault.kind {
-            BundleKind::NotYet => Ok(Made {
-                outcome: Outcome::BadInput,
-                text: b"not yet\n".to_vec(alloc)?,
-            }),
-            BundleKind::Memory => Err(AllocError),
-        },
     }
 }

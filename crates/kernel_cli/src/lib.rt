@@ -4,6 +4,7 @@
 mod answer;
 pub mod command;
 pub mod laws;
+mod refusals;
 pub mod status;
 mod tasks;
 mod top;

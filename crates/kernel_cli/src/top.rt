@@ -4,9 +4,8 @@ ghost use Rattle.std.specs.Prelude.{Some, map, string_bytes};
 ghost use Rattle.kernel_cli.specs.Commands.{command_of};
 ghost use Rattle.kernel_cli.specs.Outcome.{status_of};
 ghost use Rattle.kernel_cli.specs.TopCall.{WritesOrFails, IsAnswered};
-ghost use Rattle.kernel_cli.specs.declared.command.Command.TheVariants as commands;
 
-use crate::answer::{Made, answer_alone, status_of};
+use crate::answer::{Made, answer, status_of};
 use crate::command::{Command, read_words};
 use crate::status::Status;
 use io_edge::{Gate, ReadEnd, Sink, Source, read_all, write_all};
@@ -34,15 +33,20 @@ fn put_answer<K: Sink>(sink: &mut K, made: &Made) -> Status
     put(sink, made.text.as_slice(), status_of(made.outcome))
 }
 
-/// Runs each task of the bundle that the source gives by itself.
-fn alone<S: Source, K: Sink>(alloc: Global, src: &mut S, sink: &mut K) -> Status
-    ensures answered { IsAnswered S.left S.faults K.held K.faults (Some commands.Alone) src.old src.new sink.old sink.new result }
+/// Does a command over the bundle that the source gives.
+fn do_command<S: Source, K: Sink>(
+    alloc: Global,
+    command: Command,
+    src: &mut S,
+    sink: &mut K,
+) -> Status
+    ensures answered { IsAnswered S.left S.faults K.held K.faults (Some command) src.old src.new sink.old sink.new result }
 {
     match read_all(alloc, src, INPUT_LIMIT) {
         Err(ReadEnd::ReadFault) => Status::ReadFault,
         Err(ReadEnd::Memory) => Status::Memory,
         Err(ReadEnd::TooLarge) => put(sink, b"too large\n", Status::BadInput),
-        Ok(bytes) => match answer_alone(alloc, bytes.as_slice()) {
+        Ok(bytes) => match answer(alloc, command, bytes.as_slice()) {
             Err(_) => Status::Memory,
             Ok(made) => put_answer(sink, &made),
         },
@@ -65,7 +69,7 @@ pub fn one_thread<S: Source, K: Sink>(
 {
     match read_words(words) {
         None => put(sink, b"bad words\n", Status::BadWords),
-        Some(Command::Alone) => alone(alloc, src, sink),
+        Some(command) => do_command(alloc, command, src, sink),
     }
 }
 

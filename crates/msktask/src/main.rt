@@ -11,6 +11,7 @@ use std::{env, io};
 const USAGE: &str = "\
 usage: msktask COMMAND
   alone   runs each task of the bundle on standard input by itself
+  asm     lists the code of each task of the bundle on standard input
 ";
 
 /// The status of arguments that can't be had: want of memory, or words that are no text.

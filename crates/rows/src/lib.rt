@@ -2,4 +2,10 @@
 #![tactic(auto)]
 
 #[cfg(test)]
-mod tests;
+mod alone_rows;
+#[cfg(test)]
+mod edge_rows;
+#[cfg(test)]
+mod harness;
+#[cfg(test)]
+mod refused_rows;

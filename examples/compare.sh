@@ -1,0 +1,33 @@
+#!/usr/bin/env bash
+# Compares what the program prints for each example with what stands beside it: NAME.bundle with NAME.alone, and with NAME.asm
+# where there is one. Prints what differs, and nothing where all agree.
+# Ends with 1 where something differs or a report is missing. Where the program isn't built it says so and ends with 0.
+set -u
+cd "$(dirname "$0")" || exit 2
+program=../crates/msktask/out/msktask
+if [ ! -x "$program" ]; then
+    echo "examples: not compared, since crates/msktask/out/msktask isn't built" >&2
+    exit 0
+fi
+
+# what a command prints for a bundle, and then its status
+printed() {
+    "$program" "$1" <"$2"
+    echo "status $?"
+}
+
+# what it has to print: the file, and then status 0
+wanted() {
+    cat "$1" && echo "status 0"
+}
+
+differ=0
+for bundle in *.bundle; do
+    name=${bundle%.bundle}
+    for command in alone asm; do
+        [ -e "$name.$command" ] || [ "$command" = alone ] || continue
+        diff --label "$name.$command" --label "$command < $bundle" -u <(wanted "$name.$command") <(printed "$command" "$bundle") ||
+            differ=1
+    done
+done
+exit "$differ"
