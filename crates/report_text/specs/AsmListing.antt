@@ -3,7 +3,7 @@ use Rattle.std.specs.Prelude.{ℕ, ◌+◌, List, [], ◌∷◌, ◌++◌, codes
 use Rattle.std.specs.Int.{to_le_bytes, w32}
 use Rattle.hex.specs.Hex.{encode_lower}
 use Rattle.isa_model.specs.declared.task.Task.{Task}
-use Rattle.rv_asm.specs.Disassembly.{text_of_word}
+use Rattle.rv_asm.specs.Disassembly.{line_of_word}
 use Rattle.report_text.specs.Texts.{hex_word}
 
 -- the bytes of a word in memory, the least significant first
@@ -12,7 +12,7 @@ memory_bytes word = encode_lower (to_le_bytes w32 word)
 
 -- the line of the word at an address
 unfoldable pub word_line : ℕ → ℕ → List ℕ
-word_line at word = hex_word at ++ (codes " " ++ (memory_bytes word ++ (codes " " ++ (text_of_word word ++ codes "\n"))))
+word_line at word = hex_word at ++ (codes " " ++ (memory_bytes word ++ (codes " " ++ (line_of_word word ++ codes "\n"))))
 
 -- the lines of words that stand from an address on
 abbrev pub word_lines : ℕ → List ℕ → List ℕ

@@ -6,12 +6,12 @@ ghost use Rattle.isa_model.specs.TaskPlaces.{IsValidTask};
 ghost use Rattle.report_text.specs.AsmListing.{word_line, word_lines, code_lines, asm_text_of};
 
 use alone_run::Task;
-use rv_asm::word_text;
+use rv_asm::word_line;
 use std::alloc::{AllocError, Global};
 
 /// Appends the line of the word at an address.
 #[tactic(auto, unfolding(crate::specs::AsmListing::word_line))]
-fn add_word(at: u32, word: u32, out: &mut Vec<u8>) -> Result<(), AllocError>
+fn add_line(at: u32, word: u32, out: &mut Vec<u8>) -> Result<(), AllocError>
     ensures ok { OnOk result (out.new.items ≡ out.old.items ++ word_line at word) }
 {
     let alloc = *out.allocator();
@@ -21,7 +21,7 @@ fn add_word(at: u32, word: u32, out: &mut Vec<u8>) -> Result<(), AllocError>
     out.extend_from_slice(b" ")?;
     out.extend_from_slice(bytes.as_bytes())?;
     out.extend_from_slice(b" ")?;
-    word_text(word, out)?;
+    word_line(word, out)?;
     out.extend_from_slice(b"\n")
 }
 
@@ -31,7 +31,7 @@ fn add_words(at: u32, words: &[u32], out: &mut Vec<u8>) -> Result<(), AllocError
     ensures ok { OnOk result (out.new.items ≡ out.old.items ++ word_lines at words.now) }
 {
     for (index, word) in words.iter().enumerate() {
-        add_word(at + 4 * index as u32, *word, out)?;
+        add_line(at + 4 * index as u32, *word, out)?;
     }
     Ok(())
 }

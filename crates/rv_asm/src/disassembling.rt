@@ -1,6 +1,6 @@
 //! Disassembling words.
 
-ghost use Rattle.std.specs.Prelude.{◌≡◌, ℕ, ◌≤◌, ◌++◌, length, IfOk, OnOk};
+ghost use Rattle.std.specs.Prelude.{◌≡◌, ℕ, ◌≤◌, ◌++◌, length, IfOk, OnOk, OnErr};
 ghost use Rattle.std.specs.Str.Lines.{lines};
 ghost use Rattle.rv_asm.specs.Refusals.{max_words};
 ghost use Rattle.rv_asm.specs.Assembly.{Assembles};
@@ -9,14 +9,23 @@ ghost use Rattle.rv_asm.specs.Disassembly.{line_of_word, lines_of_words, ended, 
 use rv_decode::{decode, instr_text, word_text};
 use std::alloc::{AllocError, Global};
 
-/// Appends the line of a word.
+/// Appends the line of a word, without an end: the text of its instruction, or `.word 0x` with eight digits where it has none. After
+/// want of memory `out` holds what it held.
+pub fn word_line(word: u32, out: &mut Vec<u8>) -> Result<(), AllocError>
+    ensures ok { OnOk result (out.new.items ≡ out.old.items ++ line_of_word word) }
+    ensures err { OnErr result (out.new.items ≡ out.old.items) }
+{
+    match decode(word) {
+        Some(instr) => instr_text(instr, out),
+        None => word_text(word, out),
+    }
+}
+
+/// Appends the line of a word and LF.
 fn add_line(word: u32, text: &mut Vec<u8>) -> Result<(), AllocError>
     ensures ok { OnOk result (text.new.items ≡ text.old.items ++ ended (line_of_word word)) }
 {
-    match decode(word) {
-        Some(instr) => instr_text(instr, text)?,
-        None => word_text(word, text)?,
-    }
+    word_line(word, text)?;
     text.push(b'\n')?;
     Ok(())
 }

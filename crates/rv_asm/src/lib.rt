@@ -12,7 +12,7 @@ mod places;
 
 pub use asm_line::AsmKind;
 pub use assembling::{Assembled, assemble};
-pub use disassembling::disassemble;
+pub use disassembling::{disassemble, word_line};
 pub use fault::AsmFault;
 
 #[cfg(test)]
