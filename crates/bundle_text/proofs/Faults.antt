@@ -1,7 +1,7 @@
 -- A fault of a text names one of its lines or the line after them, and no want of memory.
-use Rattle.std.proofs.Common.{◌≡◌, ◌≢◌, ℕ, ◌+◌, ◌≤◌, Bool, true, false, ◌&&◌, cond, eqb, leb, List, [], ◌∷◌, ◌++◌, length, codes, Option, Some, None, Result, Ok, Err, refl, sym, ap, ◌∙◌, subst, arith}
+use Rattle.std.proofs.Common.{◌≡◌, ◌≢◌, ℕ, ◌+◌, ◌≤◌, Bool, true, false, ◌&&◌, cond, eqb, leb, List, [], ◌∷◌, ◌++◌, length, codes, Option, Some, None, Result, Ok, Err, sym, subst, arith}
 use Rattle.std.specs.Str.{bytes_eq}
-use Rattle.bundle_text.specs.Pieces.{is_text, lines, tokens}
+use Rattle.bundle_text.specs.Pieces.{is_text, tokens}
 use Rattle.bundle_text.specs.Numbers.{number_in, number_within, decimal_of, hex_of, without_0x, word_within, word_of}
 use Rattle.bundle_text.specs.Operands.{◌>>=◌, each, no_operands, one_number, are_limit_words, limits_of, task_operands, quanta_tokens, plan_of, plan_operands, has_plan, is_as_long, world_operands}
 use Rattle.bundle_text.specs.Runs.{run_of, run_within, order_operand, event_with, event_operand}

@@ -1,5 +1,5 @@
 -- By the lines that are cut from the text.
-use Rattle.std.proofs.Common.{◌≡◌, ◌+◌, List, ℕ, length, Result, Ok, Err, ap, ◌∙◌, arith}
+use Rattle.std.proofs.Common.{◌+◌, List, ℕ, length, ap, ◌∙◌, arith}
 use Rattle.bundle_text.specs.Pieces.{lines}
 use Rattle.bundle_text.specs.Lines.{with_lines, no_lines}
 use Rattle.bundle_text.specs.Form.{Breaks}
