@@ -15,4 +15,5 @@ pub mod TokenLaws
 pub mod Decides
 pub mod NumberLaws
 pub mod RunLaws
+pub mod Faults
 pub mod Examples
