@@ -18,7 +18,7 @@ use Rattle.bundle_text.specs.declared.bundle.Bundle.{Bundle}
 use Rattle.bundle_text.specs.declared.bundle.BundleFault.{BundleFault}
 use Rattle.bundle_text.specs.declared.bundle.BundleKind.{BundleKind}
 use Rattle.bundle_text.specs.declared.bundle.BundleKind.TheVariants as kind
-use Rattle.bundle_text.specs.declared.bundle.World.{World}
+use Rattle.core_model.specs.declared.world.World.{World}
 use Rattle.bundle_text.proofs.Steps.{err_ok}
 
 -- ---- no refusal by a line is for want of memory
