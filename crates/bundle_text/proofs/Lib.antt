@@ -4,3 +4,4 @@ pub mod Rest
 pub mod Splits
 pub mod Eaches
 pub mod Examples
+pub mod RoundTrip

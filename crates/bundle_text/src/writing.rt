@@ -1,10 +1,10 @@
 //! Writing a bundle.
 
-ghost use Rattle.std.specs.Prelude.{◌≡◌, ◌<◌, ◌++◌, List, map, codes, decimal, length, OnOk, IfOk};
+ghost use Rattle.std.specs.Prelude.{◌≡◌, ◌<◌, ◌++◌, map, codes, decimal, OnOk, IfOk};
 ghost use Rattle.std.specs.List.{flat_map};
 ghost use Rattle.bundle_text.specs.Form.{digit_char};
 ghost use Rattle.bundle_text.specs.Range.{IsWritable};
-ghost use Rattle.bundle_text.specs.Text.{word_text, after_blanks, list_text, quanta_text, plan_text, code_text, task_head_text, task_text, world_text, times_text, event_text, event_run_text, order_run_text, head_text, text_of};
+ghost use Rattle.bundle_text.specs.Text.{word_text, after_blanks, list_text, quanta_text, plan_text, code_text, task_head_text, task_text, world_text, times_text, event_text, event_run_text, order_run_text, head_text, text_of, ReadsBack};
 
 use crate::bundle::{Bundle, Code, Line, PlanText, TaskText, World};
 use core_model::{Event, EventRun, OrderRun};
@@ -288,6 +288,9 @@ fn add_order(runs: &[OrderRun], out: &mut Vec<u8>) -> Result<(), AllocError>
 pub fn write_bundle(alloc: Global, bundle: &Bundle) -> Result<Vec<u8>, AllocError>
     requires writable { IsWritable bundle.now }
     ensures text { IfOk result (λ text. text.items ≡ text_of bundle.now) }
+
+    // Reading it gives the same bundle, but for the numbers of the lines at which code begins.
+    ensures reads_back { IfOk result (λ text. ReadsBack text.items bundle.now) }
 {
     let mut out = Vec::new(alloc);
     add_head(bundle.slots, &mut out)?;
