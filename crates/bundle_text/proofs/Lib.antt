@@ -3,5 +3,12 @@ pub mod HexDigits
 pub mod Rest
 pub mod Splits
 pub mod Eaches
+pub mod RunTokens
+pub mod Steps
+pub mod NumberRanges
+pub mod Sizes
+pub mod PlaceFacts
+pub mod OperandRanges
+pub mod DraftRanges
 pub mod Examples
 pub mod RoundTrip

@@ -1,9 +1,11 @@
 //! Reading a bundle, line by line.
 
-ghost use Rattle.std.specs.Prelude.{◌≡◌, ◌-◌, ◌+◌, ◌<◌, ◌^◌, length, IfOk};
+ghost use Rattle.std.specs.Prelude.{◌≡◌, ◌≢◌, ◌-◌, ◌+◌, ◌<◌, ◌^◌, length, IfOk, IfErr};
 ghost use Rattle.bundle_text.specs.Pieces.{texts, tokens as tokens_of};
 ghost use Rattle.bundle_text.specs.Lines.{task_with, with_words, with_code_line, with_plan, with_task_ended, with_operands, is_comment, is_endcode, line_of_word, line_of_tokens, line_of_code, with_line, no_lines, bundle_of};
 ghost use Rattle.bundle_text.specs.Answer.{Says, Answers};
+ghost use Rattle.bundle_text.specs.Form.{Reads, Breaks};
+ghost use Rattle.bundle_text.specs.Range.{IsInRange};
 
 use crate::bundle::{Bundle, BundleFault, BundleKind, Code, Line, TaskText};
 use crate::draft::{Draft, Place, Word};
@@ -310,14 +312,9 @@ fn with_line(alloc: Global, number: u32, draft: Draft, line: &[u8]) -> Result<Dr
     }
 }
 
-/// Reads a bundle. Errors: the first line that breaks the form, and by what; where lines are missing, the number of lines plus 1;
-/// where memory ran out, line 0.
-///
-/// It takes time linear in the length of the text.
-pub fn read_bundle(alloc: Global, bytes: &[u8]) -> Result<Bundle, BundleFault>
+/// The bundle of the lines of a text, or its first fault.
+fn read_lines(alloc: Global, bytes: &[u8]) -> Result<Bundle, BundleFault>
     requires length { length bytes.now < 2 ^ 32 - 1 }
-
-    // The bundle that the text says, or its first fault.
     ensures decision { Answers result (bundle_of bytes.now) }
 {
     let mut draft = no_lines(alloc);
@@ -351,4 +348,29 @@ fn out_of_memory() -> BundleFault
         line: NO_LINE,
         kind: BundleKind::Memory,
     }
+}
+
+/// Reads a bundle. Errors: the first line that breaks the form, and by what; where lines are missing, the number of lines plus 1;
+/// where memory ran out, line 0.
+///
+/// It takes time linear in the length of the text.
+pub fn read_bundle(alloc: Global, bytes: &[u8]) -> Result<Bundle, BundleFault>
+    requires length { length bytes.now < 2 ^ 32 - 1 }
+
+    // The bundle that the text says, or its first fault, as functions of the bytes.
+    ensures decision { Answers result (bundle_of bytes.now) }
+
+    // The bytes read as the bundle.
+    ensures read { IfOk result (λ bundle. Reads bytes.now bundle) }
+
+    // The numbers of the bundle are in their ranges, and its lists are short.
+    ensures range { IfOk result IsInRange }
+
+    // A refusal for another cause than want of memory names the first line that breaks the form.
+    ensures fault { IfErr result (λ fault. fault.kind ≢ BundleKind.Memory → Breaks bytes.now fault) }
+
+    // Want of memory names no line.
+    ensures memory { IfErr result (λ fault. fault.kind ≡ BundleKind.Memory → fault.line ≡ 0) }
+{
+    read_lines(alloc, bytes)
 }
