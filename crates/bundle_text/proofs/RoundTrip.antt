@@ -8,3 +8,4 @@ pub mod Plans
 pub mod Tasks
 pub mod Later
 pub mod Whole
+pub mod Sample

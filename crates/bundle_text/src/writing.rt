@@ -281,8 +281,9 @@ fn add_order(runs: &[OrderRun], out: &mut Vec<u8>) -> Result<(), AllocError>
     add(b"\n", out)
 }
 
-/// Writes a bundle: lines in the order of the form, tokens with one blank between each two, LF at the end of each line, words with
-/// eight lower case digits, and no line for an empty list. `AllocError` is want of memory.
+/// Writes a bundle that is in range and whose lines of code are text without CR and LF of which none ends the code. The lines have the
+/// order of the form and end in LF, and their tokens have one blank between each two. Words have eight lower case digits. The tape and
+/// the words of a task, the events and the order have one line each, and an empty list has none. `AllocError` is want of memory.
 ///
 /// It takes time linear in the length of the text.
 pub fn write_bundle(alloc: Global, bundle: &Bundle) -> Result<Vec<u8>, AllocError>
@@ -301,3 +302,6 @@ pub fn write_bundle(alloc: Global, bundle: &Bundle) -> Result<Vec<u8>, AllocErro
     add_order(bundle.order.as_slice(), &mut out)?;
     Ok(out)
 }
+
+#[cfg(test)]
+mod tests;

@@ -16,6 +16,7 @@ use Rattle.bundle_text.specs.declared.bundle.Bundle.{Bundle}
 use Rattle.bundle_text.specs.declared.bundle.TaskText.{TaskText}
 use Rattle.bundle_text.specs.declared.bundle.Code.{Code}
 use Rattle.bundle_text.specs.declared.bundle.Code.TheVariants.{Words, Text}
+use Rattle.bundle_text.proofs.RoundTrip.Tokens.{raw_by_test}
 use Rattle.bundle_text.proofs.RoundTrip.Operands.{each-words, plain_words, task_tokens, task_operands-text, plain_task}
 use Rattle.bundle_text.proofs.RoundTrip.Steps.{Leads, leads_nothing, leads_on, code_line_leads, Names, word_line_leads}
 use Rattle.bundle_text.proofs.RoundTrip.Drafts.{draft_at, closed_at, MayTasks, after_tasks}
@@ -117,10 +118,7 @@ lines_lead (line ∷ others) number bundle t first front all =
 end_line_leads : (number : ℕ) (bundle : Bundle) (t : TaskText) (first : ℕ) (lines : List (List ℕ))
     → Leads number (in_text bundle t first lines) (codes "endcode\n") (so_far at.CodeEnd bundle t t.tape (Text first lines))
 end_line_leads number bundle t first lines =
-    code_line_leads number (in_text bundle t first lines) (codes "endcode") (record { text = refl; no_cr = no_cr }) refl
-  where
-    no_cr : AllByRecursion (λ b. b ≡ 13 → ⊥) (codes "endcode")
-    no_cr = (λ q. cc, (λ q. cc, (λ q. cc, (λ q. cc, (λ q. cc, (λ q. cc, (λ q. cc, tt)))))))
+    code_line_leads number (in_text bundle t first lines) (codes "endcode") (raw_by_test (codes "endcode") refl refl) refl
 
 text_leads : (number : ℕ) (bundle : Bundle) (t : TaskText) (first_line : ℕ) (lines : List (List ℕ)) → AllByRecursion IsCodeLine lines
     → CodeLeads number bundle t (Text first_line lines)

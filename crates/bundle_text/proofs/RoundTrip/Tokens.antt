@@ -1,7 +1,7 @@
 -- The tokens of a line that is written as tokens with one blank between each two, and the first line of a text.
 use Rattle.std.proofs.Common.{◌≡◌, ◌≢◌, ℕ, ◌-◌, ◌≤◌, Bool, true, false, not, leb, eqb, ◌&&◌, List, [], ◌∷◌, ◌++◌, length, get_or, take, filter, refl, sym, ap, ◌∙◌, arith, append-nil}
 use Rattle.std.specs.List.{AllByRecursion, All, list_all, slice_split}
-use Rattle.std.proofs.lemmas.Bool.{and_parts, and_from, or_from, leb-true, ne_eqb, eqb-true, false_from_ne_true, false≢true, cond-true, cond-false}
+use Rattle.std.proofs.lemmas.Bool.{and_parts, and_from, or_from, leb-true, ne_eqb, eqb-true, eqb-false, not-true, false_from_ne_true, false≢true, cond-true, cond-false}
 use Rattle.std.proofs.lemmas.List.Elements.{All-from_recursion, All-get_or}
 use Rattle.std.proofs.lemmas.List.Splits.{slice_split_none, slice_split_at}
 use Rattle.bundle_text.specs.Pieces.{is_line_end, is_blank, is_text_byte, is_text, without_cr, lines, is_some_bytes, tokens}
@@ -85,6 +85,16 @@ tokens-line word ts first plain =
 pub record IsRaw (line : List ℕ) : Type 0 where
   pub text : is_text line ≡ true
   pub no_cr : AllByRecursion (λ b. b ≢ CARRIAGE_RETURN) line
+
+-- the same by a test that computes, for a line of which the bytes are known
+pub raw_by_test : (line : List ℕ) → is_text line ≡ true → list_all (λ b. not (eqb b CARRIAGE_RETURN)) line ≡ true → IsRaw line
+raw_by_test line text tested = record { text = text; no_cr = none line tested }
+  where
+    none : (bytes : List ℕ) → list_all (λ b. not (eqb b CARRIAGE_RETURN)) bytes ≡ true → AllByRecursion (λ b. b ≢ CARRIAGE_RETURN) bytes
+    none [] e = tt
+    none (b ∷ bs) e =
+        let p = and_parts (not (eqb b CARRIAGE_RETURN)) (list_all (λ c. not (eqb c CARRIAGE_RETURN)) bs) e in
+        (eqb-false b CARRIAGE_RETURN (not-true (eqb b CARRIAGE_RETURN) p.0), none bs p.1)
 
 visible-text : (b : ℕ) → is_visible b ≡ true → is_text_byte b ≡ true
 visible-text b e =
