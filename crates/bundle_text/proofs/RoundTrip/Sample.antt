@@ -8,7 +8,7 @@ use Rattle.core_model.specs.declared.event.EventRun.{EventRun}
 use Rattle.core_model.specs.declared.event.OrderRun.{OrderRun}
 use Rattle.bundle_text.specs.Pieces.{is_text, tokens}
 use Rattle.bundle_text.specs.Lines.{is_endcode}
-use Rattle.bundle_text.specs.Range.{IsTimes, IsWritable, IsInRange, IsTaskInRange, IsPlanInRange, IsWorldInRange, IsEventRunInRange, IsOrderRunInRange, IsCodeLine, IsLineInRange, IsByte}
+use Rattle.bundle_text.specs.Range.{IsTimes, IsWritable, IsInRange, IsTaskInRange, IsCodeLine, IsLineInRange, IsByte}
 use Rattle.bundle_text.specs.Text.{text_of}
 use Rattle.bundle_text.specs.declared.pieces.TheConstants.{CARRIAGE_RETURN}
 use Rattle.bundle_text.specs.declared.bundle.Bundle.{Bundle}
