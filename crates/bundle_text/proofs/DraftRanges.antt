@@ -493,7 +493,7 @@ code_line_more number room n (Text first_line ls) line h fits =
 code_adds_line : (ends : Bool) (number room : ℕ) (d : Draft) (line : List ℕ) → (has_slots d.place ≡ true) × (has_task d.place ≡ true)
     → IsLineInRange line → IsDraftFit number room d
     → Fits number room (length line)
-        (cond ends (record d { place = at.CodeEnd }) (record d { task = record d.task { code = with_code_line d.task.code line } }))
+    (cond ends (record d { place = at.CodeEnd }) (record d { task = record d.task { code = with_code_line d.task.code line } }))
 code_adds_line true number room d line open_task fits h = record {
   slots = λ e. h.slots open_task.0;
   fuel = λ e. h.fuel open_task.1;

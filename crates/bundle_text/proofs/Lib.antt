@@ -10,5 +10,10 @@ pub mod Sizes
 pub mod PlaceFacts
 pub mod OperandRanges
 pub mod DraftRanges
+pub mod LineLaws
+pub mod TokenLaws
+pub mod Decides
+pub mod NumberLaws
+pub mod RunLaws
 pub mod Examples
 pub mod RoundTrip

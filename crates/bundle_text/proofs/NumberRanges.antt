@@ -126,7 +126,7 @@ tick_range t run h = event_range_of (λ hart. Tick hart) (λ hart. refl) (order_
 
 either_range : (go : Bool) (letter : ℕ) (t : List ℕ) (run : EventRun)
     → cond go (event_with (λ hart. Go hart) (order_operand t)) (cond (eqb letter 0x74) (event_with (λ hart. Tick hart) (order_operand t)) (Err BadNumber))
-        ≡ Ok run
+    ≡ Ok run
     → IsEventRunInRange run
 either_range true letter t run h = go_range t run h
 either_range false letter t run h =

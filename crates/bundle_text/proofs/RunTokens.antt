@@ -1,4 +1,4 @@
--- What the token of a run is read as, by what it spells.
+-- What the token of a run spells, by what it is read as.
 use Rattle.std.proofs.Common.{◌≡◌, ℕ, ◌+◌, ◌-◌, ◌*◌, ◌<◌, ◌≤◌, ◌⊎◌, inl, inr, Bool, true, false, ◌&&◌, cond, eqb, leb, List, [], ◌∷◌, ◌++◌, codes, length, Option, Some, None, option_map, Result, Ok, Err, refl, sym, ap, ◌∙◌, subst, arith}
 use Rattle.std.proofs.lemmas.Bool.{eqb-true, eqb-false, leb-true, leb-false, and_parts, and_cases}
 use Rattle.std.proofs.lemmas.Str.{digit_value_digit}
@@ -45,7 +45,7 @@ decimal_is n (b ∷ bs) =
     either_digit (is_decimal_digit b) n b bs (decimal_after (n * 10 + (b - 48)) bs) refl (decimal_is (n * 10 + (b - 48)) bs)
 
 -- what a text spells, or that it spells no decimal number
-abbrev SpellsDecimal : List ℕ → Option ℕ → Type 0
+abbrev pub SpellsDecimal : List ℕ → Option ℕ → Type 0
 SpellsDecimal text (Some n) = IsDecimal text n
 SpellsDecimal text None = (n : ℕ) → IsDecimal text n → ⊥
 
@@ -53,7 +53,7 @@ some_digits : (b : ℕ) (bs : List ℕ) (o : Option ℕ) → DecimalIs 0 (b ∷ 
 some_digits b bs (Some n) h = record { digits = (omega arith, h.0); value = h.1 }
 some_digits b bs None h = λ n d. h d.digits.1
 
-decimal_spelled : (text : List ℕ) → SpellsDecimal text (decimal_of text)
+pub decimal_spelled : (text : List ℕ) → SpellsDecimal text (decimal_of text)
 decimal_spelled [] = λ n d. let low : 0 < 0 = d.digits.0 in omega arith
 decimal_spelled (b ∷ bs) = some_digits b bs (decimal_of (b ∷ bs)) (decimal_is 0 (b ∷ bs))
 
@@ -84,7 +84,7 @@ times_spelled (b ∷ text) = either_star (eqb b 42) b text (decimal_of text) ref
 
 -- ---- a hart digit and how often
 
-abbrev RunIs : List ℕ → Option (ℕ × ℕ) → Type 0
+abbrev pub RunIs : List ℕ → Option (ℕ × ℕ) → Type 0
 RunIs token (Some run) = SpellsRun token run.0 run.1
 RunIs token None = (hart times : ℕ) → SpellsRun token hart times → ⊥
 
@@ -112,7 +112,7 @@ run_spelled (b ∷ suffix) = either_run (is_decimal_digit b) b suffix (times_of 
 
 -- ---- ranges
 
-in_range : (hart times : ℕ) → (leb hart 7 && (leb 1 times && leb times 1048576)) ≡ true → IsInRange hart times
+pub in_range : (hart times : ℕ) → (leb hart 7 && (leb 1 times && leb times 1048576)) ≡ true → IsInRange hart times
 in_range hart times h =
     let p = and_parts (leb hart 7) (leb 1 times && leb times 1048576) h in
     let q = and_parts (leb 1 times) (leb times 1048576) p.1 in
@@ -127,36 +127,12 @@ either_out : (hart times : ℕ) → (leb hart 7 ≡ false) ⊎ ((leb 1 times && 
 either_out hart times (inl e) = let high = leb-false hart 7 e in inl (omega arith)
 either_out hart times (inr e) = times_out hart times (and_cases (leb 1 times) (leb times 1048576) e)
 
-out_of_range : (hart times : ℕ) → (leb hart 7 && (leb 1 times && leb times 1048576)) ≡ false → IsOutOfRange hart times
+pub out_of_range : (hart times : ℕ) → (leb hart 7 && (leb 1 times && leb times 1048576)) ≡ false → IsOutOfRange hart times
 out_of_range hart times h = either_out hart times (and_cases (leb hart 7) (leb 1 times && leb times 1048576) h)
 
--- ---- runs of an order
+-- ---- the letters of events
 
--- an answer of `timer_plan`, as this crate says it
-abbrev pub answer_of : {R : Type 0} → Result R TokenFault → Result R BundleKind
-answer_of (Ok run) = Ok run
-answer_of (Err fault) = Err (kind_of fault)
-
-order_some : (t : Bool) (token : List ℕ) (hart times : ℕ) (answer : Result OrderRun TokenFault)
-    → (leb hart 7 && (leb 1 times && leb times 1048576)) ≡ t → SpellsRun token hart times → DecidesOrder token answer
-    → cond t (Ok (record { hart = hart; times = times })) (Err kind.OutOfRange) ≡ answer_of answer
-order_some true token hart times answer e s d =
-    sym (ap answer_of ((d.run (record { hart = hart; times = times })).1 (s, in_range hart times e)))
-order_some false token hart times answer e s d =
-    sym (ap answer_of (d.out_of_range.1 (record { hart = hart; times = times }, s, out_of_range hart times e)))
-
-order_of_run : (token : List ℕ) (o : Option (ℕ × ℕ)) (answer : Result OrderRun TokenFault) → RunIs token o → DecidesOrder token answer
-    → run_within o ≡ answer_of answer
-order_of_run token None answer none d = sym (ap answer_of (d.bad_number.1 (λ run. none run.hart run.times)))
-order_of_run token (Some run) answer s d =
-    order_some (leb run.0 7 && (leb 1 run.1 && leb run.1 1048576)) token run.0 run.1 answer refl s d
-
-pub order_operand-is : (token : List ℕ) (answer : Result OrderRun TokenFault) → DecidesOrder token answer → order_operand token ≡ answer_of answer
-order_operand-is token answer d = order_of_run token (run_of token) answer (run_spelled token) d
-
--- ---- runs of events
-
-spelled_after : (letter : ℕ) (rest : List ℕ) (event : ℕ → Event) (hart times : ℕ) → HasLetter letter event → SpellsRun rest hart times
+pub spelled_after : (letter : ℕ) (rest : List ℕ) (event : ℕ → Event) (hart times : ℕ) → HasLetter letter event → SpellsRun rest hart times
     → SpellsEventRun (letter ∷ rest) (record { event = event hart; times = times })
 spelled_after letter rest event hart times has s = record {
   rest = rest;
@@ -164,59 +140,15 @@ spelled_after letter rest event hart times has s = record {
   rest_is = subst (λ h. SpellsRun rest h times) (sym (has.hart_is hart)) s;
 }
 
-event_some : (t : Bool) (letter : ℕ) (rest : List ℕ) (event : ℕ → Event) (hart times : ℕ) (answer : Result EventRun TokenFault)
-    → HasLetter letter event → (leb hart 7 && (leb 1 times && leb times 1048576)) ≡ t → SpellsRun rest hart times
-    → DecidesEvent (letter ∷ rest) answer
-    → event_with event (cond t (Ok (record { hart = hart; times = times })) (Err kind.OutOfRange)) ≡ answer_of answer
-event_some true letter rest event hart times answer has e s d =
-    let run : EventRun = record { event = event hart; times = times } in
-    let spelled : SpellsEventRun (letter ∷ rest) run = spelled_after letter rest event hart times has s in
-    let fits : IsInRange (hart_of (event hart)) times = subst (λ h. IsInRange h times) (sym (has.hart_is hart)) (in_range hart times e) in
-    sym (ap answer_of ((d.run run).1 (spelled, fits)))
-event_some false letter rest event hart times answer has e s d =
-    let run : EventRun = record { event = event hart; times = times } in
-    let spelled : SpellsEventRun (letter ∷ rest) run = spelled_after letter rest event hart times has s in
-    let out : IsOutOfRange (hart_of (event hart)) times = subst (λ h. IsOutOfRange h times) (sym (has.hart_is hart)) (out_of_range hart times e) in
-    sym (ap answer_of (d.out_of_range.1 (run, spelled, out)))
-
-event_of_run : (letter : ℕ) (rest : List ℕ) (event : ℕ → Event) (o : Option (ℕ × ℕ)) (answer : Result EventRun TokenFault) → HasLetter letter event
-    → RunIs rest o → DecidesEvent (letter ∷ rest) answer → event_with event (run_within o) ≡ answer_of answer
-event_of_run letter rest event None answer has none d =
-    sym (ap answer_of (d.bad_number.1 (λ run s. none (hart_of run.event) run.times (event_after letter rest run s).rest_is)))
-event_of_run letter rest event (Some run) answer has s d =
-    event_some (leb run.0 7 && (leb 1 run.1 && leb run.1 1048576)) letter rest event run.0 run.1 answer has refl s d
-
-event_with_letter : (letter : ℕ) (rest : List ℕ) (event : ℕ → Event) (answer : Result EventRun TokenFault) → HasLetter letter event
-    → DecidesEvent (letter ∷ rest) answer → event_with event (order_operand rest) ≡ answer_of answer
-event_with_letter letter rest event answer has d = event_of_run letter rest event (run_of rest) answer has (run_spelled rest) d
-
 -- an event has one of two letters
 letter_is : (event : Event) (letter : ℕ) → letter_of event ≡ letter ∷ [] → (letter ≡ 103) ⊎ (letter ≡ 116)
 letter_is (Go hart) letter e = inl (let same : letter ≡ 103 = cc in same)
 letter_is (Tick hart) letter e = inr (let same : letter ≡ 116 = cc in same)
 
-no_letter : (letter : ℕ) (rest : List ℕ) → (letter ≡ 103 → ⊥) → (letter ≡ 116 → ⊥) → (run : EventRun) → SpellsEventRun (letter ∷ rest) run → ⊥
+pub no_letter : (letter : ℕ) (rest : List ℕ) → (letter ≡ 103 → ⊥) → (letter ≡ 116 → ⊥) → (run : EventRun) → SpellsEventRun (letter ∷ rest) run → ⊥
 no_letter letter rest go tick run s =
     elim (letter_is run.event letter (event_after letter rest run s).letter_is) as (λ _. ⊥) [ inl e ↦ go e | inr e ↦ tick e ]
 
-tick_or_none : (t : Bool) (letter : ℕ) (rest : List ℕ) (answer : Result EventRun TokenFault) → eqb letter 116 ≡ t → (letter ≡ 103 → ⊥)
-    → DecidesEvent (letter ∷ rest) answer
-    → cond t (event_with (λ hart. Tick hart) (order_operand rest)) (Err kind.BadNumber) ≡ answer_of answer
-tick_or_none true letter rest answer e go d =
-    event_with_letter letter rest (λ hart. Tick hart) answer (rw (eqb-true letter 116 e) tick_letter) d
-tick_or_none false letter rest answer e go d =
-    sym (ap answer_of (d.bad_number.1 (no_letter letter rest go (eqb-false letter 116 e))))
-
-go_or_tick : (t : Bool) (letter : ℕ) (rest : List ℕ) (answer : Result EventRun TokenFault) → eqb letter 103 ≡ t → DecidesEvent (letter ∷ rest) answer
-    → cond t (event_with (λ hart. Go hart) (order_operand rest))
-        (cond (eqb letter 116) (event_with (λ hart. Tick hart) (order_operand rest)) (Err kind.BadNumber)) ≡ answer_of answer
-go_or_tick true letter rest answer e d = event_with_letter letter rest (λ hart. Go hart) answer (rw (eqb-true letter 103 e) go_letter) d
-go_or_tick false letter rest answer e d = tick_or_none (eqb letter 116) letter rest answer refl (eqb-false letter 103 e) d
-
-no_bytes_of : (event : Event) (rest : List ℕ) → [] ≡ letter_of event ++ rest → ⊥
+pub no_bytes_of : (event : Event) (rest : List ℕ) → [] ≡ letter_of event ++ rest → ⊥
 no_bytes_of (Go hart) rest e = cc
 no_bytes_of (Tick hart) rest e = cc
-
-pub event_operand-is : (token : List ℕ) (answer : Result EventRun TokenFault) → DecidesEvent token answer → event_operand token ≡ answer_of answer
-event_operand-is [] answer d = sym (ap answer_of (d.bad_number.1 (λ run s. no_bytes_of run.event s.rest s.parts)))
-event_operand-is (letter ∷ rest) answer d = go_or_tick (eqb letter 103) letter rest answer refl d

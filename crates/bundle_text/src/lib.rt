@@ -5,6 +5,7 @@
 pub mod bundle;
 mod draft;
 pub mod items;
+pub mod laws;
 mod numbers;
 mod operands;
 mod pieces;

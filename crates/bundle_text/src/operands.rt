@@ -28,7 +28,9 @@ pub(crate) fn one_number(low: u32, high: u32, tokens: &[&[u8]]) -> Result<u32, B
 fn are_limit_words(fuel_word: &[u8], out_word: &[u8], data_word: &[u8]) -> bool
     ensures value { result ≡ are_limit_words fuel_word.now out_word.now data_word.now }
 {
-    fuel_word == b"fuel".as_slice() && out_word == b"out".as_slice() && data_word == b"data".as_slice()
+    fuel_word == b"fuel".as_slice()
+        && out_word == b"out".as_slice()
+        && data_word == b"data".as_slice()
 }
 
 /// The numbers of a task.
@@ -138,7 +140,11 @@ fn is_as_long(worlds: &[World], count: usize) -> bool
 }
 
 /// A world beside the worlds so far.
-pub(crate) fn world_operands(alloc: Global, worlds: &[World], tokens: &[&[u8]]) -> Result<World, BundleKind>
+pub(crate) fn world_operands(
+    alloc: Global,
+    worlds: &[World],
+    tokens: &[&[u8]],
+) -> Result<World, BundleKind>
     ensures value { Says result (world_operands worlds.now (texts tokens.now)) }
 {
     let [secret, rest @ ..] = tokens else {

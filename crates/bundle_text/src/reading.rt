@@ -10,7 +10,9 @@ ghost use Rattle.bundle_text.specs.Range.{IsInRange};
 use crate::bundle::{Bundle, BundleFault, BundleKind, Code, Line, TaskText};
 use crate::draft::{Draft, Place, Word};
 use crate::items::Items;
-use crate::operands::{events, has_plan, one_number, order, plan_operands, task_operands, words, world_operands};
+use crate::operands::{
+    events, has_plan, one_number, order, plan_operands, task_operands, words, world_operands,
+};
 use crate::pieces::{cut_line, is_text, tokens};
 use crate::places::{is_in_code, may_end, place_after, word_named};
 use isa_model::Words;
@@ -112,13 +114,33 @@ fn tape_line(alloc: Global, draft: Draft, tokens: &[&[u8]]) -> Result<Draft, Bun
     ensures value { Says result (with_operands Word.Tape 0 draft (texts tokens.now)) }
 {
     let mut more = words(alloc, tokens)?;
-    let Draft { place, bundle, task } = draft;
-    let TaskText { fuel, out_max, data_len, tape, code } = task;
+    let Draft {
+        place,
+        bundle,
+        task,
+    } = draft;
+    let TaskText {
+        fuel,
+        out_max,
+        data_len,
+        tape,
+        code,
+    } = task;
     let mut tape = tape.into_vec();
     tape.append(&mut more)?;
     let tape = Words::new(tape);
-    let task = TaskText { fuel, out_max, data_len, tape, code };
-    Ok(Draft { place, bundle, task })
+    let task = TaskText {
+        fuel,
+        out_max,
+        data_len,
+        tape,
+        code,
+    };
+    Ok(Draft {
+        place,
+        bundle,
+        task,
+    })
 }
 
 /// The draft with words more in the code of its task.
@@ -126,29 +148,74 @@ fn words_line(alloc: Global, draft: Draft, tokens: &[&[u8]]) -> Result<Draft, Bu
     ensures value { Says result (with_operands Word.Words 0 draft (texts tokens.now)) }
 {
     let more = words(alloc, tokens)?;
-    let Draft { place, bundle, task } = draft;
-    let TaskText { fuel, out_max, data_len, tape, code } = task;
+    let Draft {
+        place,
+        bundle,
+        task,
+    } = draft;
+    let TaskText {
+        fuel,
+        out_max,
+        data_len,
+        tape,
+        code,
+    } = task;
     let code = with_words(code, more.as_slice())?;
-    let task = TaskText { fuel, out_max, data_len, tape, code };
-    Ok(Draft { place, bundle, task })
+    let task = TaskText {
+        fuel,
+        out_max,
+        data_len,
+        tape,
+        code,
+    };
+    Ok(Draft {
+        place,
+        bundle,
+        task,
+    })
 }
 
 /// The draft with lines of code opened, of which the next line is the first.
-fn code_line(alloc: Global, number: u32, draft: Draft, tokens: &[&[u8]]) -> Result<Draft, BundleKind>
+fn code_line(
+    alloc: Global,
+    number: u32,
+    draft: Draft,
+    tokens: &[&[u8]],
+) -> Result<Draft, BundleKind>
     requires number { number < 2 ^ 32 - 1 }
     ensures value { Says result (with_operands Word.Code number draft (texts tokens.now)) }
 {
     if !tokens.is_empty() {
         return Err(BundleKind::Operands);
     }
-    let Draft { place, bundle, task } = draft;
-    let TaskText { fuel, out_max, data_len, tape, .. } = task;
+    let Draft {
+        place,
+        bundle,
+        task,
+    } = draft;
+    let TaskText {
+        fuel,
+        out_max,
+        data_len,
+        tape,
+        ..
+    } = task;
     let code = Code::Text {
         first_line: number + 1,
         lines: Items::empty(alloc),
     };
-    let task = TaskText { fuel, out_max, data_len, tape, code };
-    Ok(Draft { place, bundle, task })
+    let task = TaskText {
+        fuel,
+        out_max,
+        data_len,
+        tape,
+        code,
+    };
+    Ok(Draft {
+        place,
+        bundle,
+        task,
+    })
 }
 
 /// The draft with its task ended.
@@ -158,7 +225,11 @@ fn end_line(alloc: Global, draft: Draft, tokens: &[&[u8]]) -> Result<Draft, Bund
     if !tokens.is_empty() {
         return Err(BundleKind::Operands);
     }
-    let Draft { place, mut bundle, task } = draft;
+    let Draft {
+        place,
+        mut bundle,
+        task,
+    } = draft;
     bundle.tasks.push(task)?;
     Ok(Draft {
         place,
@@ -285,14 +356,38 @@ fn line_of_code(
     requires tokens { texts tokens.now ≡ tokens_of line.now }
     ensures value { Says result (Ok (line_of_code draft line.now)) }
 {
-    let Draft { place, bundle, task } = draft;
+    let Draft {
+        place,
+        bundle,
+        task,
+    } = draft;
     if is_endcode(tokens) {
-        return Ok(Draft { place: Place::CodeEnd, bundle, task });
+        return Ok(Draft {
+            place: Place::CodeEnd,
+            bundle,
+            task,
+        });
     }
-    let TaskText { fuel, out_max, data_len, tape, code } = task;
+    let TaskText {
+        fuel,
+        out_max,
+        data_len,
+        tape,
+        code,
+    } = task;
     let code = with_code_line(alloc, code, line)?;
-    let task = TaskText { fuel, out_max, data_len, tape, code };
-    Ok(Draft { place, bundle, task })
+    let task = TaskText {
+        fuel,
+        out_max,
+        data_len,
+        tape,
+        code,
+    };
+    Ok(Draft {
+        place,
+        bundle,
+        task,
+    })
 }
 
 /// The draft with a line of this number.
