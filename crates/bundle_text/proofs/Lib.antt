@@ -17,3 +17,4 @@ pub mod NumberLaws
 pub mod RunLaws
 pub mod Faults
 pub mod Examples
+pub mod RoundTrip

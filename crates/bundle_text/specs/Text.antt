@@ -1,12 +1,12 @@
 -- The canonical text of a bundle: lines in the order of the form, tokens with one blank between each two, no line for an empty list.
-use Rattle.std.specs.Prelude.{ℕ, ◌/◌, ◌%◌, ◌^◌, ◌==◌, List, [], ◌∷◌, ◌++◌, map, codes, decimal, if◌then◌else◌}
+use Rattle.std.specs.Prelude.{◌≡◌, ℕ, ◌/◌, ◌%◌, ◌^◌, ◌==◌, List, [], ◌∷◌, ◌++◌, map, codes, decimal, Ok, if◌then◌else◌}
 use Rattle.std.specs.List.{flat_map}
-use Rattle.core_model.specs.declared.plan.Plan.{Plan}
 use Rattle.core_model.specs.declared.event.Event.{Event}
 use Rattle.core_model.specs.declared.event.Event.TheVariants.{Go, Tick}
 use Rattle.core_model.specs.declared.event.EventRun.{EventRun}
 use Rattle.core_model.specs.declared.event.OrderRun.{OrderRun}
 use Rattle.bundle_text.specs.Form.{digit_char}
+use Rattle.bundle_text.specs.Lines.{bundle_of}
 use Rattle.bundle_text.specs.declared.bundle.Bundle.{Bundle}
 use Rattle.bundle_text.specs.declared.bundle.TaskText.{TaskText}
 use Rattle.bundle_text.specs.declared.bundle.PlanText.{PlanText}
@@ -89,3 +89,9 @@ unnumbered_task t = record t { code = unnumbered_code t.code }
 
 abbrev pub unnumbered : Bundle → Bundle
 unnumbered b = record b { tasks = map unnumbered_task b.tasks }
+
+-- The text reads as the bundle, but for the numbers of the lines at which code begins.
+pub record ReadsBack (text : List ℕ) (bundle : Bundle) : Type 0 where
+  pub again : Bundle
+  pub read : bundle_of text ≡ Ok again
+  pub same : unnumbered again ≡ unnumbered bundle

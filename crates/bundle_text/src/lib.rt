@@ -10,10 +10,12 @@ mod operands;
 mod pieces;
 mod places;
 mod reading;
+mod writing;
 
 pub use bundle::{Bundle, BundleFault, BundleKind, Code, Line, PlanText, TaskText, World};
 pub use core_model::Items;
 pub use reading::read_bundle;
+pub use writing::write_bundle;
 
 #[cfg(test)]
 mod tests;

@@ -1,0 +1,11 @@
+pub mod Tokens
+pub mod Numbers
+pub mod Runs
+pub mod Operands
+pub mod Steps
+pub mod Drafts
+pub mod Plans
+pub mod Tasks
+pub mod Later
+pub mod Whole
+pub mod Sample
