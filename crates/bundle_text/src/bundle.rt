@@ -3,7 +3,6 @@
 ghost use Rattle.std.specs.Prelude.{◌≡◌};
 
 pub use core_model::World;
-
 use core_model::{EventRun, Items, OrderRun, Plan};
 use isa_model::Words;
 use std::alloc::{AllocError, AllocFailed};
