@@ -4,7 +4,6 @@ ghost use Rattle.std.specs.Prelude.{◌≡◌, ◌+◌, ◌<◌, ◌^◌, length
 ghost use Rattle.std.specs.List.{AllByRecursion};
 ghost use Rattle.bundle_text.specs.Range.{IsCodeInRange, IsTaskInRange};
 ghost use Rattle.rv_asm.specs.Listing.{texts};
-ghost use Rattle.rv_asm.specs.Assembly.{assembly};
 ghost use Rattle.rv_loader.specs.Coding.{words_of, coded_task, coded_tasks};
 ghost use Rattle.rv_loader.specs.Memory.{IsRefusalOf};
 
@@ -43,8 +42,8 @@ fn copied(alloc: Global, lines: &[Line]) -> Result<Vec<Vec<u8>>, AllocError>
 /// The words that lines assemble to.
 fn assembled(alloc: Global, lines: &[Line], first_line: u32) -> Result<Words, LoadFault>
     requires numbers { first_line + length lines.now < 2 ^ 32 }
-    ensures words { IfOk result (λ words. IfOk (assembly lines.now first_line) (λ assembled. assembled.words ≡ words)) }
-    ensures refused { IfErr result (IsRefusalOf (assembly lines.now first_line)) }
+    ensures words { IfOk result (λ words. words_of (Code.Text first_line lines.now) ≡ Ok words) }
+    ensures refused { IfErr result (IsRefusalOf (words_of (Code.Text first_line lines.now))) }
 {
     let copies = copied(alloc, lines)?;
     let Assembled { words, lines: _ } = assemble(alloc, copies.as_slice(), first_line)?;

@@ -1,0 +1,10 @@
+pub mod FirstOf
+pub mod Coded
+pub mod Places
+pub mod Counts
+pub mod Causes
+pub mod Zip
+pub mod Unrefused
+pub mod Outcomes
+pub mod Quanta
+pub mod Within

@@ -1,0 +1,173 @@
+-- What is loaded is within the limits.
+use Rattle.std.proofs.Common.{◌≡◌, ℕ, ◌+◌, ◌*◌, ◌<◌, ◌≤◌, Bool, true, false, cond, ◌==◌, List, [], ◌∷◌, length, map, get_or, Result, Ok, refl, ap, sym, subst, ◌∙◌, inl, arith}
+use Rattle.std.specs.List.{All, AllByRecursion, range_with_len, enumerate_from, sum_by, slice_index_or}
+use Rattle.std.proofs.lemmas.List.{get_or-map, get_or_default, length-map}
+use Rattle.std.proofs.lemmas.List.Elements.{All-from_recursion, All-weaker, All-map, All-nil, All-cons, All-head, All-tail}
+use Rattle.std.proofs.lemmas.List.Sums.{sum_by-cons}
+use Rattle.std.proofs.lemmas.List.FromFn.{length-map-range_with_len, length-enumerate_from, get_or-enumerate_from}
+use Rattle.isa_model.specs.declared.task.Task.{Task}
+use Rattle.isa_model.specs.TaskPlaces.{IsValidTask}
+use Rattle.core_model.specs.declared.plan.Plan.{Plan}
+use Rattle.core_model.specs.declared.world.World.{World}
+use Rattle.core_model.specs.declared.event.Event.{Event}
+use Rattle.core_model.specs.declared.event.Event.TheVariants.{Go, Tick}
+use Rattle.core_model.specs.declared.event.EventRun.{EventRun}
+use Rattle.core_model.specs.declared.event.OrderRun.{OrderRun}
+use Rattle.core_model.specs.declared.loaded.Loaded.{Loaded}
+use Rattle.core_model.specs.Events.{hart_of}
+use Rattle.core_model.specs.Limits.{max_tasks, max_quanta}
+use Rattle.core_model.specs.Loaded.{action_bound, action_bound_of, IsPlanWithinLimits, IsTaskAt, AreTasksAtPlaces, AreAsLong, IsEventRunWithinLimits, IsOrderRunWithinLimits, IsLoaded}
+use Rattle.bundle_text.specs.declared.bundle.Bundle.{Bundle}
+use Rattle.bundle_text.specs.declared.bundle.PlanText.{PlanText}
+use Rattle.bundle_text.specs.declared.bundle.TaskText.{TaskText}
+use Rattle.bundle_text.specs.Range.{IsInRange, IsTaskInRange, IsPlanInRange, IsQuantum, IsEventRunInRange, IsOrderRunInRange, AreWorldsAsLong}
+use Rattle.rv_loader.specs.declared.coding.CodedTask.{CodedTask}
+use Rattle.rv_loader.specs.Coding.{coded_tasks}
+use Rattle.rv_loader.specs.Refusals.{bound_of}
+use Rattle.rv_loader.specs.Loading.{missing_plan, plan_of, plans_of, task_at, placed_tasks, loaded_of, loading_of}
+use Rattle.rv_loader.proofs.Zip.{IsCoded, AreCoded, are_coded, all_coded, length-coded, fuels-coded}
+use Rattle.rv_loader.proofs.Unrefused.{HasFewWords, IsUnrefused, unrefused}
+use Rattle.rv_loader.proofs.Outcomes.{loaded_from}
+use Rattle.rv_loader.proofs.Places.{length-placed}
+use Rattle.rv_loader.proofs.Quanta.{quanta-le}
+
+-- plans
+
+missing_within : IsPlanWithinLimits missing_plan
+missing_within = record { tail_low = omega arith; tail_high = omega arith; quanta = All-nil _; quanta_high = omega arith }
+
+line_within : (line : PlanText) → IsPlanInRange line → length line.plan.quanta ≤ max_quanta → IsPlanWithinLimits line.plan
+line_within line range few =
+    record { tail_low = range.tail_low; tail_high = range.tail_high; quanta = All-from_recursion IsQuantum line.plan.quanta range.quanta; quanta_high = few }
+
+chosen_within : (b : Bool) (here later : Plan) → IsPlanWithinLimits here → IsPlanWithinLimits later → IsPlanWithinLimits (cond b here later)
+chosen_within true here later h k = h
+chosen_within false here later h k = k
+
+plan_within : (lines : List PlanText) (hart : ℕ) → AllByRecursion (λ line. IsPlanWithinLimits line.plan) lines → IsPlanWithinLimits (plan_of lines hart)
+plan_within [] hart h = missing_within
+plan_within (line ∷ lines) hart h = chosen_within (line.hart == hart) line.plan (plan_of lines hart) h.0 (plan_within lines hart h.1)
+
+lines_within : (lines : List PlanText) → AllByRecursion IsPlanInRange lines → All (λ line. length line.plan.quanta ≤ max_quanta) lines
+    → AllByRecursion (λ line. IsPlanWithinLimits line.plan) lines
+lines_within [] range few = tt
+lines_within (line ∷ lines) range few =
+    (line_within line range.0 (All-head (λ l. length l.plan.quanta ≤ max_quanta) line lines few),
+     lines_within lines range.1 (All-tail (λ l. length l.plan.quanta ≤ max_quanta) line lines few))
+
+-- tasks
+
+-- the numbers of a task but its place
+pub record IsSmall (task : CodedTask) : Type 0 where
+  pub few : HasFewWords task
+  pub data_words : task.data_len ≤ 1024
+  pub fuel_least : 1 ≤ task.fuel
+  pub fuel_limit : task.fuel ≤ 100000
+  pub out_limit : task.out_max ≤ 4096
+
+small_of_range : (text : TaskText) (task : CodedTask) → IsCoded text task → IsTaskInRange text → HasFewWords task → IsSmall task
+small_of_range text task coded range few =
+    let data_len : task.data_len ≡ text.data_len = ap (λ t. t.data_len) coded.task_is in
+    let fuel : task.fuel ≡ text.fuel = ap (λ t. t.fuel) coded.task_is in
+    let out_max : task.out_max ≡ text.out_max = ap (λ t. t.out_max) coded.task_is in
+    record {
+      few = few;
+      data_words = rw data_len range.data_len;
+      fuel_least = rw fuel range.fuel_low;
+      fuel_limit = rw fuel range.fuel_high;
+      out_limit = rw out_max range.out_max;
+    }
+
+all_small : (texts : List TaskText) (tasks : List CodedTask) → AreCoded texts tasks → AllByRecursion IsTaskInRange texts → All HasFewWords tasks → All IsSmall tasks
+all_small [] [] zip range few = All-nil IsSmall
+all_small [] (task ∷ tasks) zip range few = absurd zip
+all_small (text ∷ texts) [] zip range few = absurd zip
+all_small (text ∷ texts) (task ∷ tasks) zip range few =
+    All-cons IsSmall task tasks (small_of_range text task zip.0 range.0 (All-head HasFewWords task tasks few))
+    (all_small texts tasks zip.1 range.1 (All-tail HasFewWords task tasks few))
+
+valid_at : (t : ℕ) (task : CodedTask) → t < max_tasks → IsSmall task → IsTaskAt t (task_at (t, task))
+valid_at t task lt small =
+    let code = small.few.code in
+    record {
+      code_at = refl;
+      data_at = refl;
+      valid = record {
+        code_aligned = omega arith;
+        data_aligned = omega arith;
+        code_above = omega arith;
+        data_above = omega arith;
+        code_end = omega arith;
+        data_end = omega (arith, small.data_words);
+        apart = inl (omega arith);
+        code_limit = small.few.code;
+        data_limit = small.data_words;
+        fuel_least = small.fuel_least;
+        fuel_limit = small.fuel_limit;
+        out_limit = small.out_limit;
+        tape_limit = small.few.tape;
+      };
+    }
+
+-- a task without its place
+abbrev unplaced : Task → CodedTask
+unplaced task = record { code = task.code; data_len = task.data_len; fuel = task.fuel; out_max = task.out_max; tape = task.tape }
+
+placed_at : (tasks : List CodedTask) (t : ℕ) (d : Task) → t < length tasks → slice_index_or (placed_tasks tasks) t d ≡ task_at (t, slice_index_or tasks t (unplaced d))
+placed_at tasks t d lt =
+    let numbered = enumerate_from 0 tasks in
+    let first : ℕ × CodedTask = (0, unplaced d) in
+    get_or-map task_at numbered t first d (omega (arith, length-enumerate_from 0 tasks)) ∙ ap task_at (get_or-enumerate_from 0 tasks t first lt)
+    ∙ ap (λ k. task_at (k, slice_index_or tasks t (unplaced d))) (let e : 0 + t ≡ t = omega arith in e)
+
+at_places : (tasks : List CodedTask) → length tasks ≤ max_tasks → All IsSmall tasks → AreTasksAtPlaces (placed_tasks tasks)
+at_places tasks few small t d lt =
+    let within : t < length tasks = omega (arith, length-placed tasks) in
+    rw (placed_at tasks t d within) (valid_at t (slice_index_or tasks t (unplaced d)) (omega arith) (small t (unplaced d) within))
+
+fuels-placed : (n : ℕ) (tasks : List CodedTask) → sum_by (λ task. task.fuel) (map task_at (enumerate_from n tasks)) ≡ sum_by (λ task. task.fuel) tasks
+fuels-placed n [] = refl
+fuels-placed n (task ∷ tasks) =
+    sum_by-cons (λ t. t.fuel) (task_at (n, task)) (map task_at (enumerate_from (n + 1) tasks))
+    ∙ ap (λ m. task.fuel + m) (fuels-placed (n + 1) tasks)
+    ∙ sym (sum_by-cons (λ t. t.fuel) task tasks)
+
+-- worlds, events, order
+
+as_long : (worlds : List World) → AreWorldsAsLong worlds → AreAsLong worlds
+as_long [] h = tt
+as_long (first ∷ others) h = All-from_recursion _ others h
+
+event_hart : (event : Event) → hart_of event ≤ 7 → hart_of event < 8
+event_hart event h = omega arith
+
+pub loaded_is_loaded : (bundle : Bundle) (harts : ℕ) (loaded : Loaded) → 1 ≤ harts → harts ≤ 8 → IsInRange bundle → loading_of bundle harts ≡ Ok loaded → IsLoaded loaded
+loaded_is_loaded bundle harts loaded low high range h =
+    let from = loaded_from bundle harts (coded_tasks bundle.tasks) loaded h in
+    let tasks = from.tasks in
+    let zip = are_coded bundle.tasks tasks from.coded_is in
+    let facts = unrefused bundle harts tasks from.refusal in
+    let small = all_small bundle.tasks tasks zip range.tasks facts.words_high in
+    let plans : AllByRecursion (λ line. IsPlanWithinLimits line.plan) bundle.plans = lines_within bundle.plans range.plans facts.quanta_high in
+    let sound : IsLoaded (loaded_of bundle harts tasks) = record {
+      limits = record {
+        harts_low = low;
+        harts_high = high;
+        slots_low = range.slots_low;
+        slots_high = range.slots_high;
+        plan_each = length-map-range_with_len (plan_of bundle.plans) 0 harts;
+        plans = All-map IsPlanWithinLimits (plan_of bundle.plans) (range_with_len 0 harts) (λ k d lt. plan_within bundle.plans _ plans);
+        tasks_low = rw (length-placed tasks) facts.tasks_low;
+        tasks_high = rw (length-placed tasks) facts.tasks_high;
+        tasks = at_places tasks facts.tasks_high small;
+        worlds_high = facts.worlds_high;
+        worlds = facts.tapes_high;
+        worlds_as_long = as_long bundle.worlds range.worlds_as_long;
+        events = All-weaker IsEventRunInRange IsEventRunWithinLimits (λ run r. record { hart = event_hart run.event r.hart; times = r.times.low }) bundle.events (All-from_recursion _ bundle.events range.events);
+        events_high = facts.events_high;
+        order = All-weaker IsOrderRunInRange IsOrderRunWithinLimits (λ run r. record { hart = omega (arith, r.hart); times = r.times.low }) bundle.order (All-from_recursion _ bundle.order range.order);
+        order_high = facts.order_high;
+      };
+      bound = omega (arith, facts.bound_high, quanta-le bundle.plans harts, fuels-placed 0 tasks, fuels-coded bundle.tasks tasks zip, length-placed tasks, length-coded bundle.tasks tasks zip);
+    } in
+    rw from.loaded_is sound
