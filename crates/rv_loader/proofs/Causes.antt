@@ -38,20 +38,29 @@ limits_are_so bundle harts tasks fault h =
     let so = limit_is_so bundle harts in
     let P = IsSoLater bundle harts in
     first_says P (
-        tasks_refusal tasks
-        ∷ first_of (map task_refusal tasks)
-        ∷ first_of (map quanta_refusal bundle.plans)
-        ∷ worlds_refusal bundle.worlds
-        ∷ first_of (map world_refusal bundle.worlds)
-        ∷ events_refusal bundle.events
-        ∷ order_refusal bundle.order
-        ∷ []) fault
-    (so Tasks (length tasks),
-     (λ f. first_says-map P task_refusal tasks f (λ task g within. task_is_so bundle harts task g),
-      (λ f. first_says-map P quanta_refusal bundle.plans f (λ line g within. so Quanta (length line.plan.quanta) g),
-       (so Worlds (length bundle.worlds),
-        (λ f. first_says-map P world_refusal bundle.worlds f (λ world g within. so Tape (length world.tape) g),
-         (so Events (event_count bundle.events), (so Order (entry_count bundle.order), tt))))))) h
+    tasks_refusal tasks
+    ∷ first_of (map task_refusal tasks)
+    ∷ first_of (map quanta_refusal bundle.plans)
+    ∷ worlds_refusal bundle.worlds
+    ∷ first_of (map world_refusal bundle.worlds)
+    ∷ events_refusal bundle.events
+    ∷ order_refusal bundle.order
+    ∷ []) fault (
+      so Tasks (length tasks),
+      (
+        λ f. first_says-map P task_refusal tasks f (λ task g within. task_is_so bundle harts task g),
+        (
+          λ f. first_says-map P quanta_refusal bundle.plans f (λ line g within. so Quanta (length line.plan.quanta) g),
+          (
+            so Worlds (length bundle.worlds),
+            (
+              λ f. first_says-map P world_refusal bundle.worlds f (λ world g within. so Tape (length world.tape) g),
+              (so Events (event_count bundle.events), (so Order (entry_count bundle.order), tt)),
+            ),
+          ),
+        ),
+      ),
+    ) h
 
 not_below : (n m : ℕ) → nat_lt n m ≡ false → m ≤ n
 not_below n m h = grind (arith, tests)
@@ -72,6 +81,7 @@ bound_is_so bundle harts fault h =
 pub refusal_is_so : (bundle : Bundle) (harts : ℕ) (tasks : List CodedTask) (fault : LoadFault) → refusal_of bundle harts tasks ≡ Some fault → IsSoLater bundle harts fault
 refusal_is_so bundle harts tasks fault h =
     let P = IsSoLater bundle harts in
-    first_says P (limits_refusal bundle tasks ∷ first_of (map (hart_refusal harts) bundle.plans) ∷ bound_refusal (bound_of bundle harts) ∷ []) fault
-    (limits_are_so bundle harts tasks,
-     (λ f. first_says-map P (hart_refusal harts) bundle.plans f (λ line g. hart_is_so bundle harts line g), (bound_is_so bundle harts, tt))) h
+    first_says P (limits_refusal bundle tasks ∷ first_of (map (hart_refusal harts) bundle.plans) ∷ bound_refusal (bound_of bundle harts) ∷ []) fault (
+      limits_are_so bundle harts tasks,
+      (λ f. first_says-map P (hart_refusal harts) bundle.plans f (λ line g. hart_is_so bundle harts line g), (bound_is_so bundle harts, tt)),
+    ) h

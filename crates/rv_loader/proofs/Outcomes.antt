@@ -121,7 +121,8 @@ loads bundle harts valid =
       order_high = valid.order_high;
       harts_there = valid.harts_there;
       bound_high = valid.bound_high;
-    } in
-    (loaded_of bundle harts coding.0,
-     ap (λ c. loading_of_coded bundle harts c) coding.1
-     ∙ ap (λ r. unless_refused r (loaded_of bundle harts coding.0)) (is_unrefused bundle harts coding.0 facts))
+    } in (
+      loaded_of bundle harts coding.0,
+      ap (λ c. loading_of_coded bundle harts c) coding.1
+          ∙ ap (λ r. unless_refused r (loaded_of bundle harts coding.0)) (is_unrefused bundle harts coding.0 facts),
+    )

@@ -65,7 +65,7 @@ total_quanta : (lines : List PlanText) (a n : ℕ) → total (λ k. size_of (pla
 total_quanta [] a n = omega (arith, no_quanta a n)
 total_quanta (line ∷ lines) a n =
     let split = total_le_sum (λ k. size_of (plan_of (line ∷ lines) k)) (only_at line.hart (size_of line.plan)) (λ k. size_of (plan_of lines k))
-        (λ k. chosen (nat_eq line.hart k) line.plan (plan_of lines k)) a n in
+    (λ k. chosen (nat_eq line.hart k) line.plan (plan_of lines k)) a n in
     omega (arith, split, total_one line.hart (size_of line.plan) a n, total_quanta lines a n, sum_by-cons (λ l. size_of l.plan) line lines)
 
 pub quanta-le : (lines : List PlanText) (harts : ℕ) → sum_by (λ plan. length plan.quanta) (plans_of lines harts) ≤ quanta_listed lines

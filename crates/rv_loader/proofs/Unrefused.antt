@@ -105,15 +105,29 @@ unrefused bundle harts tasks h =
 
 pub is_unrefused : (bundle : Bundle) (harts : ℕ) (tasks : List CodedTask) → IsUnrefused bundle harts tasks → refusal_of bundle harts tasks ≡ None
 is_unrefused bundle harts tasks h =
-    let limits_none = none_of (limits bundle tasks)
-      (keeps_limit Tasks (length tasks) h.tasks_low h.tasks_high,
-       (keeps_each task_refusal HasFewWords tasks words_few h.words_high,
-        (keeps_each quanta_refusal _ bundle.plans (λ line k. keeps_limit Quanta (length line.plan.quanta) (omega arith) k) h.quanta_high,
-         (keeps_limit Worlds (length bundle.worlds) (omega arith) h.worlds_high,
-          (keeps_each world_refusal _ bundle.worlds (λ world k. keeps_limit Tape (length world.tape) (omega arith) k) h.tapes_high,
-           (keeps_limit Events (event_count bundle.events) (omega arith) h.events_high,
-            (keeps_limit Order (entry_count bundle.order) (omega arith) h.order_high, tt))))))) in
-    none_of (all bundle harts tasks)
-    (limits_none,
-     (keeps_each (hart_refusal harts) _ bundle.plans (λ line k. passed _ _ (is_below line.hart harts k)) h.harts_there,
-      (passed _ _ (is_within (bound_of bundle harts) max_action_bound h.bound_high), tt)))
+    let limits_none = none_of (limits bundle tasks) (
+      keeps_limit Tasks (length tasks) h.tasks_low h.tasks_high,
+      (
+        keeps_each task_refusal HasFewWords tasks words_few h.words_high,
+        (
+          keeps_each quanta_refusal _ bundle.plans (λ line k. keeps_limit Quanta (length line.plan.quanta) (omega arith) k) h.quanta_high,
+          (
+            keeps_limit Worlds (length bundle.worlds) (omega arith) h.worlds_high,
+            (
+              keeps_each world_refusal _ bundle.worlds (λ world k. keeps_limit Tape (length world.tape) (omega arith) k) h.tapes_high,
+              (
+                keeps_limit Events (event_count bundle.events) (omega arith) h.events_high,
+                (keeps_limit Order (entry_count bundle.order) (omega arith) h.order_high, tt),
+              ),
+            ),
+          ),
+        ),
+      ),
+    ) in
+    none_of (all bundle harts tasks) (
+      limits_none,
+      (
+        keeps_each (hart_refusal harts) _ bundle.plans (λ line k. passed _ _ (is_below line.hart harts k)) h.harts_there,
+        (passed _ _ (is_within (bound_of bundle harts) max_action_bound h.bound_high), tt),
+      ),
+    )

@@ -51,9 +51,10 @@ plan_within (line ∷ lines) hart h = chosen_within (line.hart == hart) line.pla
 lines_within : (lines : List PlanText) → AllByRecursion IsPlanInRange lines → All (λ line. length line.plan.quanta ≤ max_quanta) lines
     → AllByRecursion (λ line. IsPlanWithinLimits line.plan) lines
 lines_within [] range few = tt
-lines_within (line ∷ lines) range few =
-    (line_within line range.0 (All-head (λ l. length l.plan.quanta ≤ max_quanta) line lines few),
-     lines_within lines range.1 (All-tail (λ l. length l.plan.quanta ≤ max_quanta) line lines few))
+lines_within (line ∷ lines) range few = (
+  line_within line range.0 (All-head (λ l. length l.plan.quanta ≤ max_quanta) line lines few),
+  lines_within lines range.1 (All-tail (λ l. length l.plan.quanta ≤ max_quanta) line lines few),
+)
 
 -- tasks
 

@@ -36,10 +36,11 @@ pub coding_of : (texts : List TaskText) → AllByRecursion (λ text. (words : Li
     → (tasks : List CodedTask) × (coded_tasks texts ≡ Ok tasks)
 coding_of [] h = ([], refl)
 coding_of (text ∷ texts) h =
-    let rest = coding_of texts h.1 in
-    (coded_task text h.0.0 ∷ rest.0,
-     ap (λ r. r >>= λ words. coded_tasks texts >>= λ tasks. Ok (coded_task text words ∷ tasks)) h.0.1
-     ∙ ap (λ r. r >>= λ tasks. Ok (coded_task text h.0.0 ∷ tasks)) rest.1)
+    let rest = coding_of texts h.1 in (
+      coded_task text h.0.0 ∷ rest.0,
+      ap (λ r. r >>= λ words. coded_tasks texts >>= λ tasks. Ok (coded_task text words ∷ tasks)) h.0.1
+          ∙ ap (λ r. r >>= λ tasks. Ok (coded_task text h.0.0 ∷ tasks)) rest.1,
+    )
 
 -- What all texts have, their tasks have in another form.
 pub all_coded : (P : TaskText → Type 0) (Q : CodedTask → Type 0) → ((text : TaskText) (task : CodedTask) → IsCoded text task → P text → Q task)
