@@ -14,7 +14,7 @@ pub enum Command {
 
 /// The command of one word.
 fn command_named(word: &str) -> Option<Command>
-    ensures command { result ≡ command_named word.bytes }
+    ensures command { result ≡ command_named word.now }
 {
     match word {
         "alone" => Some(Command::Alone),

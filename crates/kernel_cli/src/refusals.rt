@@ -11,7 +11,7 @@ use std::alloc::{AllocError, Global};
 
 /// Why a line isn't of the form of a bundle.
 fn bundle_kind_text(kind: BundleKind) -> &'static str
-    ensures text { result.bytes ≡ bundle_kind_text kind }
+    ensures text { result.now ≡ bundle_kind_text kind }
 {
     match kind {
         BundleKind::NotText => "not text",
@@ -37,7 +37,7 @@ pub(crate) fn bundle_refusal(alloc: Global, fault: &BundleFault) -> Result<Strin
 
 /// Why a line of code doesn't assemble.
 fn asm_kind_text(kind: AsmKind) -> &'static str
-    ensures text { result.bytes ≡ asm_kind_text kind }
+    ensures text { result.now ≡ asm_kind_text kind }
 {
     match kind {
         AsmKind::DuplicateLabel => "duplicate label",
@@ -63,7 +63,7 @@ fn asm_refusal(alloc: Global, fault: &AsmFault) -> Result<String, AllocError>
 
 /// What is counted.
 fn what_text(what: What) -> &'static str
-    ensures text { result.bytes ≡ what_text what }
+    ensures text { result.now ≡ what_text what }
 {
     match what {
         What::Tasks => "tasks",
