@@ -1,24 +1,21 @@
 -- What lines make of a draft that is in range is in range.
-use Rattle.std.proofs.Common.{◌≡◌, ℕ, ◌+◌, ◌-◌, ◌<◌, ◌≤◌, ◌^◌, ◌==◌, ◌⊎◌, inl, inr, Bool, true, false, ◌&&◌, ◌||◌, not, cond, eqb, leb, List, [], ◌∷◌, ◌++◌, length, codes, Option, Some, None, Result, Ok, Err, refl, sym, ap, ◌∙◌, subst, arith, length-append}
-use Rattle.std.specs.List.{AllByRecursion, list_any, list_all}
-use Rattle.std.proofs.lemmas.Bool.{false≢true, or_parts, or_from, or_cases, and_parts, leb-true, eqb-true, eqb-false, eq-eqb, ne_eqb}
+use Rattle.std.proofs.Common.{◌≡◌, ℕ, ◌+◌, ◌-◌, ◌<◌, ◌≤◌, ◌^◌, ◌⊎◌, inl, inr, Bool, true, false, ◌&&◌, ◌||◌, cond, eqb, leb, List, [], ◌∷◌, ◌++◌, length, Option, Some, None, Result, Ok, Err, refl, sym, ap, ◌∙◌, arith, length-append}
+use Rattle.std.specs.List.{AllByRecursion}
+use Rattle.std.proofs.lemmas.Bool.{false≢true, or_parts, or_from, or_cases, and_parts, leb-true, eqb-true, eqb-false, ne_eqb}
 use Rattle.bundle_text.specs.Pieces.{tokens, is_text, is_text_byte, lines}
 use Rattle.bundle_text.specs.declared.pieces.TheConstants.{TAB, CARRIAGE_RETURN}
-use Rattle.bundle_text.specs.Numbers.{number_in, word_of}
+use Rattle.bundle_text.specs.Numbers.{word_of}
 use Rattle.bundle_text.specs.Operands.{◌>>=◌, each, no_operands, one_number, task_operands, plan_operands, has_plan, is_as_long, world_operands}
 use Rattle.bundle_text.specs.Runs.{event_operand, order_operand}
 use Rattle.bundle_text.specs.Places.{word_named, place_after, may_end, is_in_code}
 use Rattle.bundle_text.specs.Lines.{task_with, with_words, with_code_line, with_plan, with_task_ended, with_operands, is_comment, is_endcode, placed_line, line_of_word, line_of_tokens, line_of_code, with_line, no_lines, at_line, at_end, with_lines, bundle_of}
 use Rattle.bundle_text.specs.Range.{IsWord, IsByte, IsShort, IsLineInRange, IsCodeInRange, IsTaskInRange, IsPlanInRange, ArePlansApart, IsWorldInRange, AreWorldsAsLong, IsEventRunInRange, IsOrderRunInRange, IsInRange}
-use Rattle.core_model.specs.declared.event.EventRun.{EventRun}
-use Rattle.core_model.specs.declared.event.OrderRun.{OrderRun}
 use Rattle.bundle_text.specs.declared.draft.Draft.{Draft}
 use Rattle.bundle_text.specs.declared.draft.Word.{Word}
 use Rattle.bundle_text.specs.declared.draft.Word.TheVariants as word
 use Rattle.bundle_text.specs.declared.draft.Place.{Place}
 use Rattle.bundle_text.specs.declared.draft.Place.TheVariants as at
 use Rattle.bundle_text.specs.declared.bundle.Bundle.{Bundle}
-use Rattle.bundle_text.specs.declared.bundle.BundleFault.{BundleFault}
 use Rattle.bundle_text.specs.declared.bundle.BundleKind.{BundleKind}
 use Rattle.bundle_text.specs.declared.bundle.BundleKind.TheVariants as kind
 use Rattle.bundle_text.specs.declared.bundle.TaskText.{TaskText}
@@ -28,7 +25,7 @@ use Rattle.bundle_text.specs.declared.bundle.Code.{Code}
 use Rattle.bundle_text.specs.declared.bundle.Code.TheVariants.{Words, Text}
 use Rattle.bundle_text.proofs.Steps.{same_ok, err_ok, then_ok, if_ok, else_ok, all_append, each_all}
 use Rattle.bundle_text.proofs.NumberRanges.{word_range, event_range, order_range}
-use Rattle.bundle_text.proofs.OperandRanges.{one_range, AreLimits, task_range, plan_range, IsWorldFound, world_range}
+use Rattle.bundle_text.proofs.OperandRanges.{one_range, task_range, plan_range, world_range}
 use Rattle.bundle_text.proofs.Sizes.{size, lines_size, lines_count, tokens_count}
 use Rattle.bundle_text.proofs.PlaceFacts.{has_slots, has_task, needs_slots, needs_task, place_of, if_then, PlaceFits, place_fits, ends_with_slots, code_place}
 

@@ -15,5 +15,6 @@ pub mod TokenLaws
 pub mod Decides
 pub mod NumberLaws
 pub mod RunLaws
+pub mod Faults
 pub mod Examples
 pub mod RoundTrip

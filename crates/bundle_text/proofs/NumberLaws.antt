@@ -1,11 +1,11 @@
 -- The numbers of tokens are those of the form.
 use Rattle.std.proofs.Common.{◌≡◌, ℕ, ◌+◌, ◌-◌, ◌*◌, ◌<◌, ◌≤◌, ◌↔◌, ◌⊎◌, inl, inr, Bool, true, false, ◌&&◌, cond, eqb, leb, ltb, List, [], ◌∷◌, ◌++◌, codes, length, Option, Some, None, Result, Ok, Err, refl, sym, ap, ◌∙◌, subst, arith}
-use Rattle.std.proofs.lemmas.Bool.{eqb-true, eqb-false, ne_eqb, leb-true, leb-false, ltb-true, ltb-false, lt-ltb, le-ltb, and_parts, and_cases, cond_both}
+use Rattle.std.proofs.lemmas.Bool.{eqb-true, eqb-false, leb-true, leb-false, ltb-true, ltb-false, lt-ltb, le-ltb, and_parts, and_cases, cond_both}
 use Rattle.std.proofs.lemmas.Str.{digit_value_digit}
 use Rattle.std.specs.Char.{digit_value}
 use Rattle.std.specs.Str.Parse.{IsNumeral, AllDigits, digits_value, digits_value_after}
 use Rattle.timer_plan.specs.Tokens.{IsDecimal}
-use Rattle.bundle_text.specs.Numbers.{decimal_of, number_within, number_in, is_decimal_digit, hex_letter_of, hex_digit_of, with_digit, hex_after, hex_of, without_0x, word_within, word_of_digits, word_of}
+use Rattle.bundle_text.specs.Numbers.{decimal_of, number_within, number_in, is_decimal_digit, hex_letter_of, hex_digit_of, with_digit, hex_after, hex_of, without_0x, word_within, word_of}
 use Rattle.bundle_text.specs.Form.{SpellsHex, IsHexWord, IsLongHex}
 use Rattle.bundle_text.specs.declared.bundle.BundleKind.{BundleKind}
 use Rattle.bundle_text.specs.declared.bundle.BundleKind.TheVariants.{BadNumber, OutOfRange}

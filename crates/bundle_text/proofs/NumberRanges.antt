@@ -8,7 +8,7 @@ use Rattle.core_model.specs.declared.event.Event.{Event}
 use Rattle.core_model.specs.declared.event.Event.TheVariants.{Go, Tick}
 use Rattle.core_model.specs.declared.event.EventRun.{EventRun}
 use Rattle.core_model.specs.declared.event.OrderRun.{OrderRun}
-use Rattle.bundle_text.specs.Numbers.{is_decimal_digit, number_in, number_within, decimal_of, hex_letter_of, hex_digit_of, with_digit, with_char, hex_after, hex_of, without_0x, word_within, word_of_digits, word_of}
+use Rattle.bundle_text.specs.Numbers.{is_decimal_digit, number_in, number_within, decimal_of, hex_letter_of, hex_digit_of, with_digit, hex_after, hex_of, without_0x, word_within, word_of_digits, word_of}
 use Rattle.bundle_text.specs.Runs.{run_of, run_within, order_operand, event_with, event_operand}
 use Rattle.bundle_text.specs.Range.{IsWord, IsOrderRunInRange, IsEventRunInRange}
 use Rattle.bundle_text.specs.declared.bundle.BundleKind.{BundleKind}

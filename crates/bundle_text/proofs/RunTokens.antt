@@ -1,25 +1,20 @@
 -- What the token of a run spells, by what it is read as.
-use Rattle.std.proofs.Common.{◌≡◌, ℕ, ◌+◌, ◌-◌, ◌*◌, ◌<◌, ◌≤◌, ◌⊎◌, inl, inr, Bool, true, false, ◌&&◌, cond, eqb, leb, List, [], ◌∷◌, ◌++◌, codes, length, Option, Some, None, option_map, Result, Ok, Err, refl, sym, ap, ◌∙◌, subst, arith}
+use Rattle.std.proofs.Common.{◌≡◌, ℕ, ◌+◌, ◌-◌, ◌*◌, ◌<◌, ◌⊎◌, inl, inr, Bool, true, false, ◌&&◌, cond, eqb, leb, List, [], ◌∷◌, ◌++◌, Option, Some, None, option_map, refl, sym, ap, ◌∙◌, subst, arith}
 use Rattle.std.proofs.lemmas.Bool.{eqb-true, eqb-false, leb-true, leb-false, and_parts, and_cases}
 use Rattle.std.proofs.lemmas.Str.{digit_value_digit}
 use Rattle.std.specs.Char.{digit_value}
 use Rattle.std.specs.Str.Parse.{AllDigits, digits_value_after}
 use Rattle.std.proofs.lemmas.Str.Parse.{digit_from_value}
 use Rattle.std.specs.Int.{IsInRange as IsBetween}
-use Rattle.core_model.specs.Events.{hart_of}
 use Rattle.core_model.specs.declared.event.Event.{Event}
 use Rattle.core_model.specs.declared.event.Event.TheVariants.{Go, Tick}
 use Rattle.core_model.specs.declared.event.EventRun.{EventRun}
-use Rattle.core_model.specs.declared.event.OrderRun.{OrderRun}
 use Rattle.timer_plan.specs.Tokens.{IsDecimal, SpellsTimes, SpellsRun, SpellsEventRun, letter_of, IsInRange, IsOutOfRange}
 use Rattle.timer_plan.specs.Tokens.SpellsTimes.{Once, Starred}
-use Rattle.timer_plan.specs.declared.token.TokenFault.{TokenFault}
 use Rattle.timer_plan.proofs.Spelling.{digit_range, no_digit, digit_below, digit_decimal, times_after, event_after}
-use Rattle.timer_plan.proofs.Decides.{DecidesOrder, DecidesEvent, HasLetter, go_letter, tick_letter}
+use Rattle.timer_plan.proofs.Decides.{HasLetter}
 use Rattle.bundle_text.specs.Numbers.{is_decimal_digit, decimal_after, decimal_of}
-use Rattle.bundle_text.specs.Runs.{times_of, run_of, run_within, order_operand, event_with, event_operand, kind_of}
-use Rattle.bundle_text.specs.declared.bundle.BundleKind.{BundleKind}
-use Rattle.bundle_text.specs.declared.bundle.BundleKind.TheVariants as kind
+use Rattle.bundle_text.specs.Runs.{times_of, run_of}
 
 -- ---- decimals
 

@@ -1,5 +1,5 @@
 -- How many lines a text has, how many tokens a line, and how many bytes they have.
-use Rattle.std.proofs.Common.{◌≡◌, ℕ, ◌+◌, ◌-◌, ◌<◌, ◌≤◌, Bool, true, false, cond, eqb, List, [], ◌∷◌, length, take, filter, get_or, refl, arith, length-take}
+use Rattle.std.proofs.Common.{◌≡◌, ℕ, ◌+◌, ◌-◌, ◌≤◌, Bool, true, false, cond, eqb, List, [], ◌∷◌, length, take, filter, get_or, refl, arith, length-take}
 use Rattle.std.specs.List.{slice_split, onto_first}
 use Rattle.std.proofs.lemmas.Bool.{cond_both, eqb-false}
 use Rattle.bundle_text.specs.Pieces.{is_line_end, is_blank, without_cr, lines_of, lines, is_some_bytes, tokens}

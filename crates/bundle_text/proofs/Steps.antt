@@ -1,8 +1,7 @@
 -- What a chain of steps that may fail leaves of its parts.
-use Rattle.std.proofs.Common.{◌≡◌, ℕ, ◌+◌, ◌≤◌, Bool, true, false, cond, List, [], ◌∷◌, ◌++◌, length, Option, Some, None, Result, Ok, Err, refl, sym, ap, ◌∙◌, arith}
+use Rattle.std.proofs.Common.{◌≡◌, ℕ, Bool, true, false, cond, List, [], ◌∷◌, ◌++◌, length, Result, Ok, Err, refl, arith}
 use Rattle.std.specs.List.{AllByRecursion}
 use Rattle.bundle_text.specs.Operands.{◌>>=◌, each}
-use Rattle.bundle_text.specs.Numbers.{number_in, number_within, word_of, decimal_of}
 use Rattle.bundle_text.specs.declared.bundle.BundleKind.{BundleKind}
 
 pub same_ok : {A E : Type 0} (x y : A) → ◌≡◌ {A = Result A E} (Ok x) (Ok y) → x ≡ y

@@ -1,6 +1,6 @@
 -- The form of a bundle by productions: the lines of a text, the tokens of a line and the number of a token. Decimal numbers and the runs
 -- of events and orders are `timer_plan`'s. What the lines say is in `Lines`, case by case.
-use Rattle.std.specs.Prelude.{◌≡◌, ◌≢◌, ℕ, ◌≤◌, ◌⊎◌, List, [], ◌∷◌, ◌++◌, length, codes, slice_index, Result, Ok, Err}
+use Rattle.std.specs.Prelude.{◌≡◌, ◌≢◌, ℕ, ◌≤◌, ◌⊎◌, List, [], ◌∷◌, ◌++◌, length, codes, slice_index, Ok, Err}
 use Rattle.std.specs.List.{AllByRecursion}
 use Rattle.std.specs.Str.Parse.{IsNumeral, digits_value}
 use Rattle.bundle_text.specs.Lines.{with_lines, no_lines}

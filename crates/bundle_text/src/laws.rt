@@ -1,6 +1,6 @@
 //! Laws about the definitions of `specs/`: each is the contract of a function that does nothing.
 
-ghost use Rattle.std.specs.Prelude.{◌≡◌, ℕ, ◌<◌, ◌≤◌, ◌↔◌, ◌⊎◌, List};
+ghost use Rattle.std.specs.Prelude.{◌≡◌, ◌≢◌, ℕ, ◌+◌, ◌<◌, ◌≤◌, ◌↔◌, ◌⊎◌, List, length};
 ghost use Rattle.core_model.specs.Events.{hart_of};
 ghost use Rattle.core_model.specs.declared.event.EventRun.{EventRun};
 ghost use Rattle.core_model.specs.declared.event.OrderRun.{OrderRun};
@@ -12,7 +12,7 @@ ghost use Rattle.bundle_text.specs.Lines.{bundle_of};
 ghost use Rattle.bundle_text.specs.Form.{AreLinesOf, AreTokensOf, SpellsHex, IsHexWord, IsLongHex, Reads, Breaks};
 ghost use Rattle.bundle_text.specs.declared.bundle.Bundle.{Bundle};
 ghost use Rattle.bundle_text.specs.declared.bundle.BundleFault.{BundleFault};
-ghost use Rattle.bundle_text.specs.declared.bundle.BundleKind.TheVariants.{BadNumber, OutOfRange};
+ghost use Rattle.bundle_text.specs.declared.bundle.BundleKind.TheVariants.{BadNumber, OutOfRange, Memory};
 
 /// The lines that are cut from a text are the lines of its form, and no others are.
 pub fn lines_are_decided()
@@ -64,4 +64,11 @@ pub fn form_is_unambiguous()
     ensures breaks { (bytes : List ℕ) (a b : BundleFault) → Breaks bytes a → Breaks bytes b → a ≡ b }
     ensures apart { (bytes : List ℕ) (bundle : Bundle) (fault : BundleFault) → Reads bytes bundle → ¬ (Breaks bytes fault) }
     ensures some { (bytes : List ℕ) → ((bundle : Bundle) × Reads bytes bundle) ⊎ ((fault : BundleFault) × Breaks bytes fault) }
+{}
+
+/// A fault names one of the lines of the text or the line after them, and is never for want of memory.
+pub fn faults_name_lines()
+    ensures line_low { (bytes : List ℕ) (fault : BundleFault) → Breaks bytes fault → 1 ≤ fault.line }
+    ensures line_high { (bytes : List ℕ) (fault : BundleFault) → Breaks bytes fault → fault.line ≤ length (lines bytes) + 1 }
+    ensures kind { (bytes : List ℕ) (fault : BundleFault) → Breaks bytes fault → fault.kind ≢ Memory }
 {}

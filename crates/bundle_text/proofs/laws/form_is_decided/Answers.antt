@@ -1,5 +1,5 @@
 -- The lines of a text are those that are cut from it.
-use Rattle.std.proofs.Common.{◌≡◌, List, ℕ, Result, Ok, Err, sym, ap, ◌∙◌}
+use Rattle.std.proofs.Common.{ap, ◌∙◌}
 use Rattle.bundle_text.specs.Pieces.{lines}
 use Rattle.bundle_text.specs.Lines.{with_lines, no_lines}
 use Rattle.bundle_text.proofs.LineLaws.{lines_are_of_form, lines_are_unique}

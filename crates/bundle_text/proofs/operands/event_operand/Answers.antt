@@ -1,7 +1,5 @@
 -- By what the token spells.
-use Rattle.std.proofs.Common.{◌≡◌, Result, Ok, Err, sym, ap, ◌∙◌}
-use Rattle.core_model.specs.declared.event.EventRun.{EventRun}
-use Rattle.timer_plan.specs.declared.token.TokenFault.{TokenFault}
+use Rattle.std.proofs.Common.{Ok, Err, sym, ap, ◌∙◌}
 use Rattle.timer_plan.proofs.Decides.{DecidesEvent}
 use Rattle.bundle_text.proofs.RunLaws.{event_operand-is}
 use Rattle.bundle_text.proofs.operands.event_operand.Goals as goal

@@ -1,7 +1,5 @@
 -- By what the token spells.
-use Rattle.std.proofs.Common.{◌≡◌, Result, Ok, Err, sym, ap, ◌∙◌}
-use Rattle.core_model.specs.declared.event.OrderRun.{OrderRun}
-use Rattle.timer_plan.specs.declared.token.TokenFault.{TokenFault}
+use Rattle.std.proofs.Common.{Ok, Err, sym, ap, ◌∙◌}
 use Rattle.timer_plan.proofs.Decides.{DecidesOrder}
 use Rattle.bundle_text.proofs.RunLaws.{order_operand-is}
 use Rattle.bundle_text.proofs.operands.order_operand.Goals as goal
