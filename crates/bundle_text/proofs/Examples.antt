@@ -1,7 +1,7 @@
 -- The definitions tried on texts: what the first bytes of a text with one task read as, and refusals by each kind.
 use Rattle.std.specs.Prelude.{◌≡◌, ℕ, List, [], ◌∷◌, ◌++◌, take, length, codes, refl, Result, Ok, Err}
 use Rattle.bundle_text.specs.Pieces.{lines, tokens}
-use Rattle.bundle_text.specs.Numbers.{number_in, word_of}
+use Rattle.bundle_text.specs.Numbers.{word_of}
 use Rattle.bundle_text.specs.Lines.{with_line, bundle_of}
 use Rattle.bundle_text.specs.declared.bundle.Bundle.{Bundle}
 use Rattle.bundle_text.specs.declared.bundle.BundleFault.{BundleFault}

@@ -3,4 +3,17 @@ pub mod HexDigits
 pub mod Rest
 pub mod Splits
 pub mod Eaches
+pub mod RunTokens
+pub mod Steps
+pub mod NumberRanges
+pub mod Sizes
+pub mod PlaceFacts
+pub mod OperandRanges
+pub mod DraftRanges
+pub mod LineLaws
+pub mod TokenLaws
+pub mod Decides
+pub mod NumberLaws
+pub mod RunLaws
+pub mod Faults
 pub mod Examples

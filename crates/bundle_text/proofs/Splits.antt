@@ -1,7 +1,7 @@
 -- The lines and the tokens of a text of which the first piece is cut off.
 use Rattle.std.proofs.Common.{◌≡◌, ℕ, Bool, true, false, cond, List, [], ◌∷◌, ◌++◌, filter, Bor, refl, ap, sym, ◌∙◌, append_assoc}
 use Rattle.std.specs.List.{slice_split, onto_first}
-use Rattle.bundle_text.specs.Pieces.{is_line_end, is_blank, without_cr, lines_of, lines, is_some_bytes, texts}
+use Rattle.bundle_text.specs.Pieces.{is_line_end, without_cr, lines_of, lines, is_some_bytes, texts}
 
 abbrev pub IsMore : List (List ℕ) → Type 0
 IsMore [] = ⊥

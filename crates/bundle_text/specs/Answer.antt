@@ -1,6 +1,7 @@
 -- What reading answers.
-use Rattle.std.specs.Prelude.{◌≡◌, ℕ, ⊤, List, Result, Ok, Err, Vec}
+use Rattle.std.specs.Prelude.{◌≡◌, ⊤, List, Result, Ok, Err, Vec}
 use Rattle.std.specs.declared.alloc.Global.{Global}
+use Rattle.bundle_text.specs.declared.draft.Draft.{Draft}
 use Rattle.bundle_text.specs.declared.bundle.Bundle.{Bundle}
 use Rattle.bundle_text.specs.declared.bundle.BundleFault.{BundleFault}
 use Rattle.bundle_text.specs.declared.bundle.BundleKind.{BundleKind}
@@ -27,6 +28,11 @@ vec_items (Err kind) = Err kind
 abbrev pub Says : {A : Type 0} → Result A BundleKind → Result A BundleKind → Type 0
 Says (Ok x) decided = decided ≡ Ok x
 Says (Err kind) decided = IsKind kind (decided ≡ Err kind)
+
+-- A line leaves the draft that was decided, unless memory ran out.
+abbrev pub Leaves : {U : Type 0} → Result U BundleKind → Draft → Result Draft BundleKind → Type 0
+Leaves (Ok u) new decided = decided ≡ Ok new
+Leaves (Err kind) new decided = IsKind kind (decided ≡ Err kind)
 
 -- A refusal of a text: by want of memory, with line 0, or by the fault that was decided.
 abbrev pub IsRefusal : BundleKind → BundleFault → Result Bundle BundleFault → Type 0

@@ -1,8 +1,8 @@
--- The form of a bundle by productions: what a text says of its bytes, a line of its tokens and a token of its number. What the lines
--- say is in `Lines`, case by case.
-use Rattle.std.specs.Prelude.{◌≡◌, ◌≢◌, ℕ, ◌≤◌, ◌⊎◌, List, [], ◌∷◌, ◌++◌, length, map, codes, slice_index, Result, Ok, Err}
+-- The form of a bundle by productions: the lines of a text, the tokens of a line and the number of a token. Decimal numbers and the runs
+-- of events and orders are `timer_plan`'s. What the lines say is in `Lines`, case by case.
+use Rattle.std.specs.Prelude.{◌≡◌, ◌≢◌, ℕ, ◌≤◌, ◌⊎◌, List, [], ◌∷◌, ◌++◌, length, codes, slice_index, Ok, Err}
 use Rattle.std.specs.List.{AllByRecursion}
-use Rattle.std.specs.Int.Digits.{AllBelowBase, number_from_digits}
+use Rattle.std.specs.Str.Parse.{IsNumeral, digits_value}
 use Rattle.bundle_text.specs.Lines.{with_lines, no_lines}
 use Rattle.bundle_text.specs.declared.bundle.Bundle.{Bundle}
 use Rattle.bundle_text.specs.declared.bundle.BundleFault.{BundleFault}
@@ -51,37 +51,27 @@ AreTokensOf (token ∷ others) line =
     (blanks : List ℕ) × (rest : List ℕ) × AllByRecursion IsBlank blanks × IsToken token × (line ≡ blanks ++ token ++ rest)
     × BeginsBlank rest × AreTokensOf others rest
 
--- the character of a digit from 0 to 15, and the upper case one
+-- the character of a digit from 0 to 15
 abbrev pub digit_char : ℕ → ℕ
 digit_char d = slice_index (codes "0123456789abcdef") d
 
-abbrev pub upper_digit_char : ℕ → ℕ
-upper_digit_char d = slice_index (codes "0123456789ABCDEF") d
+-- one or more hexadecimal digits, each of either case, which `0x` may stand before
+pub record SpellsHex (text : List ℕ) (digits : List ℕ) : Type 0 where
+  pub front : (text ≡ digits) ⊎ (text ≡ codes "0x" ++ digits)
+  pub numeral : IsNumeral 16 digits
 
--- one or more decimal digits, the most significant first
-pub record IsDecimal (text : List ℕ) (number : ℕ) : Type 0 where
-  pub digits : List ℕ
-  pub below : AllBelowBase 10 digits
-  pub spelled : text ≡ map digit_char digits
-  pub value : number ≡ number_from_digits 10 digits
-  pub some : 1 ≤ length text
-
--- The text is hexadecimal digits, each of either case.
-abbrev pub SpellsHex : List ℕ → List ℕ → Type 0
-SpellsHex [] text = text ≡ []
-SpellsHex (d ∷ ds) [] = ⊥
-SpellsHex (d ∷ ds) (b ∷ bs) = ((b ≡ digit_char d) ⊎ (b ≡ upper_digit_char d)) × SpellsHex ds bs
-
--- 1 to 8 hexadecimal digits, which `0x` may stand before
+-- such digits, at most 8 of them, and their number
 pub record IsHexWord (text : List ℕ) (word : ℕ) : Type 0 where
   pub digits : List ℕ
-  pub spelling : List ℕ
-  pub front : (text ≡ spelling) ⊎ (text ≡ codes "0x" ++ spelling)
-  pub below : AllBelowBase 16 digits
-  pub spelled : SpellsHex digits spelling
-  pub value : word ≡ number_from_digits 16 digits
-  pub low : 1 ≤ length digits
-  pub high : length digits ≤ 8
+  pub spelled : SpellsHex text digits
+  pub few : length digits ≤ 8
+  pub value : word ≡ digits_value 16 digits
+
+-- such digits, 9 or more of them
+pub record IsLongHex (text : List ℕ) : Type 0 where
+  pub digits : List ℕ
+  pub spelled : SpellsHex text digits
+  pub many : 9 ≤ length digits
 
 -- The bytes read as this bundle.
 pub record Reads (bytes : List ℕ) (bundle : Bundle) : Type 0 where

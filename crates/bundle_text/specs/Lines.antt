@@ -1,8 +1,8 @@
 -- What each line of a text makes of what the lines before it say, the bundle of a text, and its first fault.
-use Rattle.std.specs.Prelude.{ℕ, ◌+◌, ◌==◌, Bool, true, false, ◌++◌, List, [], ◌∷◌, Option, Some, None, Result, Ok, Err, codes, if◌then◌else◌}
+use Rattle.std.specs.Prelude.{ℕ, ◌+◌, ◌==◌, Bool, false, ◌++◌, List, [], ◌∷◌, Option, Some, None, Result, Ok, Err, codes, if◌then◌else◌}
 use Rattle.std.specs.Str.{bytes_eq}
 use Rattle.bundle_text.specs.Pieces.{is_text, lines, tokens}
-use Rattle.bundle_text.specs.Numbers.{number_in, word_of}
+use Rattle.bundle_text.specs.Numbers.{word_of}
 use Rattle.bundle_text.specs.Operands.{◌>>=◌, each, no_operands, one_number, task_operands, plan_operands, has_plan, world_operands}
 use Rattle.bundle_text.specs.Runs.{event_operand, order_operand}
 use Rattle.bundle_text.specs.Places.{word_named, place_after, may_end, is_in_code}

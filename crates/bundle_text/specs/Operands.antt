@@ -42,12 +42,15 @@ limits_of fuel_token out_token data_token = do
   data_len ← number_in 0 1024 data_token
   Ok (fuel, out_max, data_len)
 
+-- the words before these numbers
+abbrev pub are_limit_words : List ℕ → List ℕ → List ℕ → Bool
+are_limit_words fuel_word out_word data_word =
+    bytes_eq fuel_word (codes "fuel") && bytes_eq out_word (codes "out") && bytes_eq data_word (codes "data")
+
 -- `fuel F out O data D`
 abbrev pub task_operands : List (List ℕ) → Result (ℕ × ℕ × ℕ) BundleKind
 task_operands (fuel_word ∷ fuel ∷ out_word ∷ out ∷ data_word ∷ data_len ∷ []) =
-    if bytes_eq fuel_word (codes "fuel") && bytes_eq out_word (codes "out") && bytes_eq data_word (codes "data")
-    then limits_of fuel out data_len
-    else Err Operands
+    if are_limit_words fuel_word out_word data_word then limits_of fuel out data_len else Err Operands
 task_operands _ = Err Operands
 
 -- the tokens of the quanta: none, or those after `quanta`

@@ -52,4 +52,3 @@ pieces_after parts (Some rest) = slice_split parts rest
 abbrev pub lines_cut : Option (List ℕ × List ℕ) → List (List ℕ)
 lines_cut None = []
 lines_cut (Some cut) = cut.0 ∷ lines cut.1
-

@@ -1,8 +1,7 @@
 -- The ranges of a bundle's numbers and the lengths of its lists.
-use Rattle.std.specs.Prelude.{◌≡◌, ◌≢◌, ℕ, ◌+◌, ◌<◌, ◌≤◌, ◌^◌, ⊤, Bool, true, false, List, [], ◌∷◌, length}
+use Rattle.std.specs.Prelude.{◌≡◌, ◌≢◌, ℕ, ◌+◌, ◌<◌, ◌≤◌, ◌^◌, ⊤, true, false, List, [], ◌∷◌, length}
 use Rattle.std.specs.List.{AllByRecursion}
-use Rattle.core_model.specs.declared.event.Event.{Event}
-use Rattle.core_model.specs.declared.event.Event.TheVariants.{Go, Tick}
+use Rattle.core_model.specs.Events.{hart_of}
 use Rattle.core_model.specs.declared.event.EventRun.{EventRun}
 use Rattle.core_model.specs.declared.event.OrderRun.{OrderRun}
 use Rattle.bundle_text.specs.Pieces.{is_text, tokens}
@@ -68,10 +67,6 @@ pub record IsWorldInRange (world : World) : Type 0 where
 abbrev pub AreWorldsAsLong : List World → Type 0
 AreWorldsAsLong [] = ⊤
 AreWorldsAsLong (first ∷ others) = AllByRecursion (λ world. length world.tape ≡ length first.tape) others
-
-abbrev pub hart_of : Event → ℕ
-hart_of (Go hart) = hart
-hart_of (Tick hart) = hart
 
 -- from 1 to 2^20
 pub record IsTimes (times : ℕ) : Type 0 where

@@ -4,6 +4,8 @@ use Rattle.core_model.specs.declared.event.Event.{Event}
 use Rattle.core_model.specs.declared.event.Event.TheVariants.{Go, Tick}
 use Rattle.core_model.specs.declared.event.EventRun.{EventRun}
 use Rattle.core_model.specs.declared.event.OrderRun.{OrderRun}
+use Rattle.timer_plan.specs.declared.token.TokenFault.{TokenFault}
+use Rattle.timer_plan.specs.declared.token.TokenFault.TheVariants as fault
 use Rattle.bundle_text.specs.Numbers.{is_decimal_digit, decimal_of}
 use Rattle.bundle_text.specs.declared.bundle.BundleKind.{BundleKind}
 use Rattle.bundle_text.specs.declared.bundle.BundleKind.TheVariants.{BadNumber, OutOfRange}
@@ -39,3 +41,8 @@ event_operand (letter ∷ token) =
     if letter == 0x67
     then event_with (λ hart. Go hart) (order_operand token)
     else (if letter == 0x74 then event_with (λ hart. Tick hart) (order_operand token) else Err BadNumber)
+
+-- the kind of a token that is no run
+abbrev pub kind_of : TokenFault → BundleKind
+kind_of fault.BadNumber = BadNumber
+kind_of fault.OutOfRange = OutOfRange

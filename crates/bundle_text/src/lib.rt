@@ -4,6 +4,7 @@
 
 pub mod bundle;
 mod draft;
+pub mod laws;
 mod numbers;
 mod operands;
 mod pieces;

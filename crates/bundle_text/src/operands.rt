@@ -3,8 +3,8 @@
 ghost use Rattle.std.specs.Prelude.{◌≡◌, option_map};
 ghost use Rattle.bundle_text.specs.Pieces.{texts};
 ghost use Rattle.bundle_text.specs.Numbers.{number_in, word_of};
-ghost use Rattle.bundle_text.specs.Operands.{each, one_number, limits_of, task_operands, quanta_tokens, plan_of, plan_operands, has_plan, is_as_long, world_operands};
-ghost use Rattle.bundle_text.specs.Runs.{event_operand, order_operand};
+ghost use Rattle.bundle_text.specs.Operands.{each, one_number, are_limit_words, limits_of, task_operands, quanta_tokens, plan_of, plan_operands, has_plan, is_as_long, world_operands};
+ghost use Rattle.bundle_text.specs.Runs.{event_operand, order_operand, kind_of};
 ghost use Rattle.bundle_text.specs.Answer.{Says, vec_items};
 
 use crate::bundle::{BundleKind, PlanText, World};
@@ -24,6 +24,25 @@ pub(crate) fn one_number(low: u32, high: u32, tokens: &[&[u8]]) -> Result<u32, B
     }
 }
 
+/// Whether these are the words before the numbers of a task.
+fn are_limit_words(fuel_word: &[u8], out_word: &[u8], data_word: &[u8]) -> bool
+    ensures value { result ≡ are_limit_words fuel_word.now out_word.now data_word.now }
+{
+    fuel_word == b"fuel".as_slice()
+        && out_word == b"out".as_slice()
+        && data_word == b"data".as_slice()
+}
+
+/// The numbers of a task.
+fn limits(fuel: &[u8], out: &[u8], data_len: &[u8]) -> Result<(u32, u32, u32), BundleKind>
+    ensures value { result ≡ limits_of fuel.now out.now data_len.now }
+{
+    let fuel = number_in(1, 100_000, fuel)?;
+    let out_max = number_in(0, 4096, out)?;
+    let data_len = number_in(0, 1024, data_len)?;
+    Ok((fuel, out_max, data_len))
+}
+
 /// The fuel, the greatest output and the number of data words of a task.
 pub(crate) fn task_operands(tokens: &[&[u8]]) -> Result<(u32, u32, u32), BundleKind>
     ensures value { result ≡ task_operands (texts tokens.now) }
@@ -31,13 +50,11 @@ pub(crate) fn task_operands(tokens: &[&[u8]]) -> Result<(u32, u32, u32), BundleK
     let [fuel_word, fuel, out_word, out, data_word, data_len] = tokens else {
         return Err(BundleKind::Operands);
     };
-    if *fuel_word != b"fuel".as_slice() || *out_word != b"out".as_slice() || *data_word != b"data".as_slice() {
-        return Err(BundleKind::Operands);
+    if are_limit_words(fuel_word, out_word, data_word) {
+        limits(fuel, out, data_len)
+    } else {
+        Err(BundleKind::Operands)
     }
-    let fuel = number_in(1, 100_000, fuel)?;
-    let out_max = number_in(0, 4096, out)?;
-    let data_len = number_in(0, 1024, data_len)?;
-    Ok((fuel, out_max, data_len))
 }
 
 /// The words of tokens.
@@ -123,7 +140,11 @@ fn is_as_long(worlds: &[World], count: usize) -> bool
 }
 
 /// A world beside the worlds so far.
-pub(crate) fn world_operands(alloc: Global, worlds: &[World], tokens: &[&[u8]]) -> Result<World, BundleKind>
+pub(crate) fn world_operands(
+    alloc: Global,
+    worlds: &[World],
+    tokens: &[&[u8]],
+) -> Result<World, BundleKind>
     ensures value { Says result (world_operands worlds.now (texts tokens.now)) }
 {
     let [secret, rest @ ..] = tokens else {
@@ -139,8 +160,7 @@ pub(crate) fn world_operands(alloc: Global, worlds: &[World], tokens: &[&[u8]]) 
 
 /// The kind of a token that is no run.
 fn kind(fault: TokenFault) -> BundleKind
-    ensures bad_number { fault ≡ TokenFault.BadNumber → result ≡ BundleKind.BadNumber }
-    ensures out_of_range { fault ≡ TokenFault.OutOfRange → result ≡ BundleKind.OutOfRange }
+    ensures value { result ≡ kind_of fault }
 {
     match fault {
         TokenFault::BadNumber => BundleKind::BadNumber,
