@@ -1,8 +1,7 @@
 -- What colons part.
-use Rattle.std.proofs.Common.{◌≡◌, ℕ, Bool, true, false, cond, List, [], ◌∷◌, ◌++◌, length, refl, ap, sym, ◌∙◌, append_assoc, append-nil}
+use Rattle.std.proofs.Common.{◌≡◌, ℕ, Bool, true, false, cond, List, [], ◌∷◌, ◌++◌, refl, ap, sym, ◌∙◌, append_assoc, append-nil}
 use Rattle.std.specs.List.{slice_split, onto_first, join_with_byte}
 use Rattle.std.proofs.lemmas.List.Splits.{join_with_byte-slice_split}
-use Rattle.asm_line.specs.declared.pieces.Separator.{Separator}
 use Rattle.asm_line.specs.declared.pieces.Separator.TheVariants.{Colon}
 use Rattle.asm_line.specs.Pieces.{pieces, trim_start, is_separator}
 use Rattle.asm_line.specs.Names.{is_name}

@@ -1,6 +1,6 @@
 -- A text is cut at the first byte that passes.
-use Rattle.std.proofs.Common.{◌≡◌, ℕ, zero, suc, ◌+◌, ◌<◌, ◌≤◌, Bool, true, false, ◌||◌, List, [], ◌∷◌, length, take, drop, get_or, refl, ap, sym, ◌∙◌, arith}
-use Rattle.std.specs.List.{slice_split, onto_first, position_or_len, before_first, after_first, list_any}
+use Rattle.std.proofs.Common.{◌≡◌, ℕ, zero, suc, ◌+◌, ◌<◌, Bool, true, false, ◌||◌, List, [], ◌∷◌, length, take, drop, get_or, refl, ap, ◌∙◌, arith}
+use Rattle.std.specs.List.{slice_split, onto_first, position_or_len, list_any}
 use Rattle.std.proofs.lemmas.List.Splits.{slice_split-cons_yes, slice_split-cons_no}
 use Rattle.std.proofs.lemmas.List.Sums.{position_or_len_is}
 

@@ -1,10 +1,10 @@
 -- Digits, one after another, and the cap.
-use Rattle.std.proofs.Common.{◌≡◌, ℕ, suc, ◌+◌, ◌-◌, ◌*◌, ◌<◌, ◌≤◌, ◌^◌, min, ◌∙◌, List, [], ◌∷◌, length, drop, get_or, refl, ap, sym, arith, Option, Some, None, option_map, Result, Ok, Err, Bool, true, false, ◌&&◌, cond, leb, ltb, zero, ℤ, pos, negsuc, drop-cons, ◌⊎◌, inl, inr}
+use Rattle.std.proofs.Common.{◌≡◌, ℕ, suc, ◌+◌, ◌-◌, ◌*◌, ◌<◌, ◌≤◌, ◌^◌, min, ◌∙◌, List, length, drop, get_or, refl, ap, sym, arith, Option, Some, None, option_map, Ok, Err, false, ◌&&◌, cond, leb, ltb, zero, ℤ, pos, negsuc, drop-cons, ◌⊎◌, inl, inr}
 use Rattle.std.proofs.Math.Nat.{mul-le-mul}
 use Rattle.std.proofs.lemmas.Bool.{lt-leb, le-ltb}
 use Rattle.asm_line.specs.declared.line.AsmKind.TheVariants.{BadNumber, OutOfRange}
 use Rattle.asm_line.specs.declared.fields.Target.TheVariants.{Distance}
-use Rattle.asm_line.specs.Numbers.{digit_of, with_digit, digits_after, negative, is_even, is_within}
+use Rattle.asm_line.specs.Numbers.{digit_of, with_digit, digits_after, negative, is_even}
 use Rattle.asm_line.specs.Capped.{cap, capped, capped_number}
 use Rattle.asm_line.specs.Operands.{in_range, or_fault, distance_in, target_or_label, ◌>>=◌}
 

@@ -1,7 +1,6 @@
 -- The definition at written-out lines.
-use Rattle.std.proofs.Common.{◌≡◌, ℕ, List, [], ◌∷◌, Ok, Err, codes, refl}
-use Rattle.asm_line.specs.declared.line.AsmKind.TheVariants.{UnknownWord, Operands, BadRegister, BadNumber, OutOfRange}
-use Rattle.asm_line.specs.declared.line.Item.TheVariants.{Empty, One, Two, JumpTo, BranchTo}
+use Rattle.std.proofs.Common.{◌≡◌, [], ◌∷◌, Ok, codes, refl}
+use Rattle.asm_line.specs.declared.line.Item.TheVariants.{One, Two, BranchTo}
 use Rattle.isa_model.specs.declared.instr.Cmp.TheVariants.{Beq}
 use Rattle.asm_line.specs.LineForm.{line_of}
 

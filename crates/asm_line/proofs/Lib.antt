@@ -5,3 +5,8 @@ pub mod Digits
 pub mod Colons
 pub mod Texts
 pub mod Range
+pub mod Parts
+pub mod Written
+pub mod ReadBack
+pub mod Operands
+pub mod Forms

@@ -1,5 +1,5 @@
 -- Whatever operands say, the fields are in their ranges.
-use Rattle.std.proofs.Common.{◌≡◌, ℕ, ◌+◌, ◌-◌, ◌%◌, ◌<◌, ◌≤◌, ◌^◌, Bool, true, false, ◌&&◌, cond, eqb, leb, ltb, List, [], ◌∷◌, Option, Some, None, Result, Ok, Err, IfOk, IfSome, ℤ, pos, negsuc, refl, sym, ap, subst, arith, lit<}
+use Rattle.std.proofs.Common.{◌≡◌, ℕ, ◌-◌, ◌%◌, ◌<◌, ◌≤◌, ◌^◌, Bool, true, false, ◌&&◌, cond, eqb, leb, ltb, List, [], ◌∷◌, Option, Some, None, Result, Ok, Err, IfOk, IfSome, ℤ, pos, negsuc, refl, sym, subst, arith, lit<}
 use Rattle.std.specs.List.{list_all}
 use Rattle.std.specs.Str.{bytes_eq}
 use Rattle.std.proofs.lemmas.Bool.{and_parts, leb-true, ltb-true, eqb-true}
@@ -8,7 +8,6 @@ use Rattle.isa_model.specs.Encoding.{IsEven}
 use Rattle.asm_line.specs.declared.line.AsmKind.{AsmKind}
 use Rattle.asm_line.specs.declared.line.AsmKind.TheVariants.{BadRegister, BadNumber, OutOfRange}
 use Rattle.asm_line.specs.declared.fields.Fields.{Fields}
-use Rattle.asm_line.specs.declared.fields.Target.{Target}
 use Rattle.asm_line.specs.declared.fields.Target.TheVariants.{Distance, Label}
 use Rattle.asm_line.specs.declared.fields.Operand.{Operand}
 use Rattle.asm_line.specs.declared.fields.Operand.TheVariants.{Rd, Rs1, Rs2, Imm12, Imm20, Shamt, Uimm, Address, Csr, JumpTarget, BranchTarget, Number}
@@ -16,7 +15,7 @@ use Rattle.asm_line.specs.Pieces.{offset_part, register_part}
 use Rattle.asm_line.specs.Numbers.{number_of, distance_of, is_within, is_even}
 use Rattle.asm_line.specs.Names.{number_named, register_names, csr_names, is_name}
 use Rattle.asm_line.specs.Fields.{AreInRange, IsTargetIn, no_fields}
-use Rattle.asm_line.specs.Operands.{◌>>=◌, or_fault, register, in_range, number_in, word_value, word_in, unsigned_in, csr_named, csr, distance_in, target_or_label, target, with_operand, with_operands}
+use Rattle.asm_line.specs.Operands.{◌>>=◌, or_fault, register, in_range, number_in, word_value, word_in, unsigned_in, csr_named, csr, target_or_label, target, with_operand, with_operands}
 
 -- what holds of a value holds of what is made of it
 after_ok : {A B : Type 0} (r : Result A AsmKind) (Q : A → Type 0) (P : B → Type 0) (k : A → Result B AsmKind) → IfOk r Q → ((x : A) → Q x → IfOk (k x) P) → IfOk (r >>= k) P

@@ -1,7 +1,7 @@
 -- Texts between commas: there is at least one where anything is left.
 use Rattle.std.proofs.Common.{◌≡◌, ℕ, Bool, true, false, List, [], ◌∷◌, length, map, Option, Some, None, option_copied, is_some, not, ◌<◌, Bor, Ok, refl, ap, arith}
 use Rattle.asm_line.specs.declared.pieces.Separator.TheVariants.{Comma}
-use Rattle.asm_line.specs.Pieces.{pieces, pieces_after, is_separator, trim, texts_after}
+use Rattle.asm_line.specs.Pieces.{pieces, is_separator, trim, texts_after}
 use Rattle.asm_line.specs.Operands.{have_shapes, with_operands}
 use Rattle.asm_line.specs.declared.fields.Operand.{Operand}
 use Rattle.asm_line.specs.declared.fields.Fields.{Fields}

@@ -1,5 +1,5 @@
 -- The numbers of operands.
-use Rattle.std.specs.Prelude.{ℕ, zero, suc, ◌+◌, ◌-◌, ◌*◌, ◌%◌, Bool, true, ◌&&◌, nat_lt, nat_le, ◌==◌, if◌then◌else◌, List, [], ◌∷◌, length, drop, codes, nat_eq, Option, Some, None, option_map, ℤ, pos, negsuc}
+use Rattle.std.specs.Prelude.{ℕ, zero, suc, ◌+◌, ◌-◌, ◌*◌, ◌%◌, Bool, ◌&&◌, nat_lt, nat_le, ◌==◌, if◌then◌else◌, List, [], ◌∷◌, length, drop, codes, nat_eq, Option, Some, None, option_map, ℤ, pos, negsuc}
 use Rattle.std.specs.List.{starts_with}
 
 abbrev pub is_decimal_digit : ℕ → Bool

@@ -1,5 +1,5 @@
 -- What an operand says. Its first fault is one of three: it names no register, it is no number, or its number is out of range.
-use Rattle.std.specs.Prelude.{ℕ, ◌-◌, ◌^◌, Bool, true, false, ◌&&◌, if◌then◌else◌, List, [], ◌∷◌, Option, Some, None, Result, Ok, Err, ℤ, pos, negsuc}
+use Rattle.std.specs.Prelude.{ℕ, ◌-◌, ◌^◌, Bool, true, false, ◌&&◌, if◌then◌else◌, List, [], ◌∷◌, Option, Some, None, Result, Ok, Err, ℤ}
 use Rattle.isa_model.specs.Bits.{two_complement}
 use Rattle.asm_line.specs.declared.line.AsmKind.{AsmKind}
 use Rattle.asm_line.specs.declared.line.AsmKind.TheVariants.{BadRegister, BadNumber, OutOfRange}

@@ -1,5 +1,5 @@
 -- The assembler's words: the name of each, its operands in their order, and what it makes of them.
-use Rattle.std.specs.Prelude.{ℕ, ◌+◌, ◌-◌, ◌/◌, ◌^◌, Bool, ◌==◌, if◌then◌else◌, List, [], ◌∷◌, codes, Option, pos, negsuc}
+use Rattle.std.specs.Prelude.{ℕ, ◌+◌, ◌-◌, ◌/◌, ◌^◌, ◌==◌, if◌then◌else◌, List, [], ◌∷◌, codes, Option, pos, negsuc}
 use Rattle.std.specs.List.{find}
 use Rattle.std.specs.Str.{bytes_eq}
 use Rattle.isa_model.specs.declared.instr.Cmp.{Cmp}

@@ -5,6 +5,7 @@
 
 mod fields;
 mod items;
+pub mod laws;
 pub mod line;
 mod mnemonic;
 mod names;

@@ -1,6 +1,7 @@
 //! Lines made by hand, with the words that the GNU assembler makes of them, and lines that are refused.
 
 use crate::{AsmKind, Item, read_line};
+use rv_decode::Cmp;
 use std::process::Abort;
 use std::test::Fail;
 
@@ -178,31 +179,47 @@ fn refused(rt: HostRuntime) -> Result<(), Fail> {
     Ok(())
 }
 
+/// A line with a label, a jump to one, and a comment with a word that could be a register.
+const JUMP: &[u8] = b"\t_a1:b:  j\tx1 # a target may be named as a register is";
+
 #[test]
-fn labels_and_targets(rt: HostRuntime) -> Result<(), Fail> {
-    let line = read_line(
-        rt.alloc(),
-        b"\t_a1:b:  j\tx1 # a target may be named as a register is",
-    )?;
+fn labels(rt: HostRuntime) -> Result<(), Fail> {
+    let line = read_line(rt.alloc(), JUMP)?;
     let labels = line.labels.as_slice();
     assert_eq!(rt; labels.len(), 2);
     assert_eq!(rt; labels[0].as_slice(), b"_a1".as_slice());
     assert_eq!(rt; labels[1].as_slice(), b"b".as_slice());
-    match line.item {
+    let line = read_line(rt.alloc(), b"only: # a label")?;
+    assert_eq!(rt; line.labels.as_slice().len(), 1);
+    assert!(rt; line.item.is_ok());
+    Ok(())
+}
+
+#[test]
+fn targets(rt: HostRuntime) -> Result<(), Fail> {
+    match &read_line(rt.alloc(), JUMP)?.item {
         Ok(Item::JumpTo { rd, label }) => {
             assert_eq!(rt; rd.num(), 0);
             assert_eq!(rt; label.as_slice(), b"x1".as_slice());
         }
         _ => assert!(rt; false, "no jump"),
     }
-    let line = read_line(rt.alloc(), b"bgeu a0 , a1 , Loop_2")?;
-    match line.item {
-        Ok(Item::BranchTo { label, .. }) => assert_eq!(rt; label.as_slice(), b"Loop_2".as_slice()),
+    match &read_line(rt.alloc(), b"bgeu a0 , a1 , Loop_2")?.item {
+        Ok(
+            Item::BranchTo {
+                op,
+                rs1,
+                rs2,
+                label,
+            },
+        ) => {
+            assert_eq!(rt; *op, Cmp::Bgeu);
+            assert_eq!(rt; rs1.num(), 10);
+            assert_eq!(rt; rs2.num(), 11);
+            assert_eq!(rt; label.as_slice(), b"Loop_2".as_slice());
+        }
         _ => assert!(rt; false, "no branch"),
     }
-    let line = read_line(rt.alloc(), b"only: # a label")?;
-    assert_eq!(rt; line.labels.as_slice().len(), 1);
-    assert!(rt; line.item.is_ok());
     Ok(())
 }
 

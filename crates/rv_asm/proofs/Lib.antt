@@ -1,0 +1,9 @@
+pub mod PlacesSeen
+pub mod Labels
+pub mod Reading
+pub mod LinkedLines
+pub mod NoMemory
+pub mod Whole
+pub mod Printed
+pub mod Ended
+pub mod OnePerLine

@@ -4,3 +4,4 @@ pub mod Assembly
 pub mod Memory
 pub mod Places
 pub mod Code
+pub mod Disassembly

@@ -4,6 +4,7 @@
 #![tactic(auto)]
 
 mod assembling;
+mod disassembling;
 mod fault;
 mod linking;
 mod listing;
@@ -11,4 +12,8 @@ mod places;
 
 pub use asm_line::AsmKind;
 pub use assembling::{Assembled, assemble};
+pub use disassembling::disassemble;
 pub use fault::AsmFault;
+
+#[cfg(test)]
+mod tests;

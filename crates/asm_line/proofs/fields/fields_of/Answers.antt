@@ -1,5 +1,5 @@
 -- At the end of the texts.
-use Rattle.std.proofs.Common.{◌≡◌, ◌∙◌, ap, sym, drop, option_copied}
+use Rattle.std.proofs.Common.{◌∙◌, ap, sym, drop, option_copied}
 use Rattle.asm_line.specs.Pieces.{texts_after}
 use Rattle.asm_line.specs.Operands.{with_operands}
 use Rattle.asm_line.proofs.Texts.{with_operands-nil}

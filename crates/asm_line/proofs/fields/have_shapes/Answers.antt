@@ -1,5 +1,5 @@
 -- At the end of the operands, and at the end of the texts.
-use Rattle.std.proofs.Common.{◌≡◌, ◌<◌, ◌≤◌, ◌∙◌, ap, sym, arith, length, drop, length-drop, option_copied}
+use Rattle.std.proofs.Common.{◌<◌, ◌∙◌, ap, sym, arith, length, drop, length-drop, option_copied}
 use Rattle.std.proofs.lemmas.List.{drop_all}
 use Rattle.asm_line.specs.Pieces.{texts_after}
 use Rattle.asm_line.specs.Operands.{have_shapes}

@@ -1,5 +1,5 @@
 -- A digit more.
-use Rattle.std.proofs.Common.{◌≡◌, ◌+◌, ◌*◌, ◌<◌, ◌∙◌, cond, ap, sym, arith, drop, Some, None}
+use Rattle.std.proofs.Common.{◌+◌, ◌*◌, ◌<◌, ◌∙◌, cond, ap, sym, arith, drop, Some, None}
 use Rattle.std.proofs.lemmas.Bool.{lt-ltb}
 use Rattle.asm_line.specs.Numbers.{with_digit, digits_after}
 use Rattle.asm_line.specs.Capped.{capped}

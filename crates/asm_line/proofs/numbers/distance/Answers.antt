@@ -2,7 +2,7 @@
 use Rattle.std.proofs.Common.{◌≡◌, ◌∙◌, ap, sym, refl, true, false, codes, drop, option_map}
 use Rattle.std.proofs.lemmas.List.{take_rest}
 use Rattle.asm_line.specs.Numbers.{begins, digits_value, negative, distance_of}
-use Rattle.asm_line.specs.Capped.{capped, capped_number}
+use Rattle.asm_line.specs.Capped.{capped_number}
 use Rattle.asm_line.proofs.Digits.{capped-negatives}
 use Rattle.asm_line.proofs.numbers.distance.Goals as goal
 

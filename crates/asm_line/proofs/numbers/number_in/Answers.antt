@@ -1,5 +1,5 @@
 -- Up to the cap the range is judged alike.
-use Rattle.std.proofs.Common.{◌≡◌, ◌∙◌, ap, arith}
+use Rattle.std.proofs.Common.{◌∙◌, ap, arith}
 use Rattle.std.specs.Int.{w64}
 use Rattle.std.proofs.lemmas.Int.{to_z-of_z}
 use Rattle.asm_line.specs.declared.line.AsmKind.TheVariants.{BadNumber}

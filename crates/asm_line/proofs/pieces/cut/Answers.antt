@@ -1,8 +1,8 @@
 -- Cut at the first separator.
-use Rattle.std.proofs.Common.{◌≡◌, ◌+◌, ◌<◌, length, take, drop, get_or, true, [], sym, ◌∙◌, ap, arith}
+use Rattle.std.proofs.Common.{◌≡◌, ◌+◌, length, take, drop, get_or, true, sym, ◌∙◌, ap, arith}
 use Rattle.std.proofs.lemmas.List.{take_rest, take_all, drop_all}
 use Rattle.asm_line.specs.Pieces.{is_separator}
-use Rattle.asm_line.proofs.Cut.{split_some, split_none, place_some, place_none, any_some, any_none}
+use Rattle.asm_line.proofs.Cut.{split_some, split_none, place_some, place_none, any_none}
 use Rattle.asm_line.proofs.pieces.cut.Goals as goal
 
 pub returns-then-is_separator-clause-pieces : goal.returns-then-is_separator-clause-pieces

@@ -1,5 +1,5 @@
 -- The labels so far stand before those of what is left.
-use Rattle.std.proofs.Common.{◌≡◌, ◌++◌, length}
+use Rattle.std.proofs.Common.{◌≡◌, length}
 use Rattle.asm_line.specs.declared.pieces.Separator.TheVariants.{Colon}
 use Rattle.asm_line.specs.Pieces.{pieces}
 use Rattle.asm_line.specs.LineForm.{parts_of}

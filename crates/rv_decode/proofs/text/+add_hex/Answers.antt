@@ -1,5 +1,5 @@
 -- The digits before the last one, and the last one.
-use Rattle.std.proofs.Common.{◌≡◌, ◌-◌, ◌/◌, ◌%◌, ◌<◌, false, [], ◌∷◌, ◌++◌, ◌∙◌, ap, sym, arith, append_assoc}
+use Rattle.std.proofs.Common.{◌-◌, ◌/◌, ◌%◌, ◌<◌, false, [], ◌∷◌, ◌++◌, ◌∙◌, ap, sym, arith, append_assoc}
 use Rattle.std.specs.Fmt.{digit_glyph}
 use Rattle.rv_decode.specs.Text.{hex_digits}
 use Rattle.rv_decode.proofs.Hex.{hex_digits_step}
