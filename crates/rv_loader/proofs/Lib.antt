@@ -6,5 +6,5 @@ pub mod Causes
 pub mod Zip
 pub mod Unrefused
 pub mod Outcomes
-pub mod Quanta
+pub mod Plans
 pub mod Within

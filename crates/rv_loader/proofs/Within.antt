@@ -2,7 +2,7 @@
 use Rattle.std.proofs.Common.{◌≡◌, ℕ, ◌+◌, ◌*◌, ◌<◌, ◌≤◌, Bool, true, false, cond, ◌==◌, List, [], ◌∷◌, length, map, get_or, Result, Ok, refl, ap, sym, subst, ◌∙◌, inl, arith}
 use Rattle.std.specs.List.{All, AllByRecursion, range_with_len, enumerate_from, sum_by, slice_index_or}
 use Rattle.std.proofs.lemmas.List.{get_or-map, get_or_default, length-map}
-use Rattle.std.proofs.lemmas.List.Elements.{All-from_recursion, All-weaker, All-map, All-nil, All-cons, All-head, All-tail}
+use Rattle.std.proofs.lemmas.List.Elements.{All-from_recursion, All-weaker, All-map, All-nil, All-cons, All-head, All-tail, All-contains}
 use Rattle.std.proofs.lemmas.List.Sums.{sum_by-cons}
 use Rattle.std.proofs.lemmas.List.FromFn.{length-map-range_with_len, length-enumerate_from, get_or-enumerate_from}
 use Rattle.isa_model.specs.declared.task.Task.{Task}
@@ -15,8 +15,8 @@ use Rattle.core_model.specs.declared.event.EventRun.{EventRun}
 use Rattle.core_model.specs.declared.event.OrderRun.{OrderRun}
 use Rattle.core_model.specs.declared.loaded.Loaded.{Loaded}
 use Rattle.core_model.specs.Events.{hart_of}
-use Rattle.core_model.specs.Limits.{max_tasks, max_quanta}
-use Rattle.core_model.specs.Loaded.{action_bound, action_bound_of, IsPlanWithinLimits, IsTaskAt, AreTasksAtPlaces, AreAsLong, IsEventRunWithinLimits, IsOrderRunWithinLimits, IsLoaded}
+use Rattle.core_model.specs.Limits.{max_harts, max_tasks, max_quanta}
+use Rattle.core_model.specs.Loaded.{action_bound, action_bound_of, IsPlanWithinLimits, IsTaskAt, AreTasksAtPlaces, AreAsLong, IsEventRunWithinLimits, IsOrderRunWithinLimits, IsWithinLimits, IsLoaded}
 use Rattle.bundle_text.specs.declared.bundle.Bundle.{Bundle}
 use Rattle.bundle_text.specs.declared.bundle.PlanText.{PlanText}
 use Rattle.bundle_text.specs.declared.bundle.TaskText.{TaskText}
@@ -25,11 +25,12 @@ use Rattle.rv_loader.specs.declared.coding.CodedTask.{CodedTask}
 use Rattle.rv_loader.specs.Coding.{coded_tasks}
 use Rattle.rv_loader.specs.Refusals.{bound_of}
 use Rattle.rv_loader.specs.Loading.{missing_plan, plan_of, plans_of, task_at, placed_tasks, loaded_of, loading_of}
+use Rattle.rv_loader.specs.Valid.{IsLoadedSoundly, HasPlansOfLines}
 use Rattle.rv_loader.proofs.Zip.{IsCoded, AreCoded, are_coded, all_coded, length-coded, fuels-coded}
 use Rattle.rv_loader.proofs.Unrefused.{HasFewWords, IsUnrefused, unrefused}
 use Rattle.rv_loader.proofs.Outcomes.{loaded_from}
 use Rattle.rv_loader.proofs.Places.{length-placed}
-use Rattle.rv_loader.proofs.Quanta.{quanta-le}
+use Rattle.rv_loader.proofs.Plans.{plan_at, plan_of-named, plan_of-unnamed, quanta-plans_of}
 
 -- plans
 
@@ -142,33 +143,56 @@ as_long (first ∷ others) h = All-from_recursion _ others h
 event_hart : (event : Event) → hart_of event ≤ 7 → hart_of event < 8
 event_hart event h = omega arith
 
-pub loaded_is_loaded : (bundle : Bundle) (harts : ℕ) (loaded : Loaded) → 1 ≤ harts → harts ≤ 8 → IsInRange bundle → loading_of bundle harts ≡ Ok loaded → IsLoaded loaded
-loaded_is_loaded bundle harts loaded low high range h =
-    let from = loaded_from bundle harts (coded_tasks bundle.tasks) loaded h in
-    let tasks = from.tasks in
-    let zip = are_coded bundle.tasks tasks from.coded_is in
-    let facts = unrefused bundle harts tasks from.refusal in
+bound_is : (bundle : Bundle) (harts : ℕ) (tasks : List CodedTask) → IsInRange bundle → AreCoded bundle.tasks tasks → IsUnrefused bundle harts tasks
+    → action_bound_of (loaded_of bundle harts tasks) ≡ bound_of bundle harts
+bound_is bundle harts tasks range zip facts =
+    omega (arith, quanta-plans_of bundle.plans harts range.plans_apart facts.harts_there, fuels-placed 0 tasks, fuels-coded bundle.tasks tasks zip, length-placed tasks, length-coded bundle.tasks tasks zip)
+
+limits_hold : (bundle : Bundle) (harts : ℕ) (tasks : List CodedTask) → 1 ≤ harts → harts ≤ max_harts → IsInRange bundle → AreCoded bundle.tasks tasks → IsUnrefused bundle harts tasks
+    → IsWithinLimits (loaded_of bundle harts tasks)
+limits_hold bundle harts tasks low high range zip facts =
     let small = all_small bundle.tasks tasks zip range.tasks facts.words_high in
-    let plans : AllByRecursion (λ line. IsPlanWithinLimits line.plan) bundle.plans = lines_within bundle.plans range.plans facts.quanta_high in
-    let sound : IsLoaded (loaded_of bundle harts tasks) = record {
-      limits = record {
-        harts_low = low;
-        harts_high = high;
-        slots_low = range.slots_low;
-        slots_high = range.slots_high;
-        plan_each = length-map-range_with_len (plan_of bundle.plans) 0 harts;
-        plans = All-map IsPlanWithinLimits (plan_of bundle.plans) (range_with_len 0 harts) (λ k d lt. plan_within bundle.plans _ plans);
-        tasks_low = rw (length-placed tasks) facts.tasks_low;
-        tasks_high = rw (length-placed tasks) facts.tasks_high;
-        tasks = at_places tasks facts.tasks_high small;
-        worlds_high = facts.worlds_high;
-        worlds = facts.tapes_high;
-        worlds_as_long = as_long bundle.worlds range.worlds_as_long;
-        events = All-weaker IsEventRunInRange IsEventRunWithinLimits (λ run r. record { hart = event_hart run.event r.hart; times = r.times.low }) bundle.events (All-from_recursion _ bundle.events range.events);
-        events_high = facts.events_high;
-        order = All-weaker IsOrderRunInRange IsOrderRunWithinLimits (λ run r. record { hart = omega (arith, r.hart); times = r.times.low }) bundle.order (All-from_recursion _ bundle.order range.order);
-        order_high = facts.order_high;
-      };
-      bound = omega (arith, facts.bound_high, quanta-le bundle.plans harts, fuels-placed 0 tasks, fuels-coded bundle.tasks tasks zip, length-placed tasks, length-coded bundle.tasks tasks zip);
+    let plans = lines_within bundle.plans range.plans facts.quanta_high in
+    record {
+      harts_low = low;
+      harts_high = high;
+      slots_low = range.slots_low;
+      slots_high = range.slots_high;
+      plan_each = length-map-range_with_len (plan_of bundle.plans) 0 harts;
+      plans = All-map IsPlanWithinLimits (plan_of bundle.plans) (range_with_len 0 harts) (λ k d lt. plan_within bundle.plans _ plans);
+      tasks_low = rw (length-placed tasks) facts.tasks_low;
+      tasks_high = rw (length-placed tasks) facts.tasks_high;
+      tasks = at_places tasks facts.tasks_high small;
+      worlds_high = facts.worlds_high;
+      worlds = facts.tapes_high;
+      worlds_as_long = as_long bundle.worlds range.worlds_as_long;
+      events = All-weaker IsEventRunInRange IsEventRunWithinLimits (λ run r. record { hart = event_hart run.event r.hart; times = r.times.low }) bundle.events (All-from_recursion _ bundle.events range.events);
+      events_high = facts.events_high;
+      order = All-weaker IsOrderRunInRange IsOrderRunWithinLimits (λ run r. record { hart = omega (arith, r.hart); times = r.times.low }) bundle.order (All-from_recursion _ bundle.order range.order);
+      order_high = facts.order_high;
+    }
+
+pub loading_sound : (bundle : Bundle) (harts : ℕ) (loaded : Loaded) → 1 ≤ harts → harts ≤ max_harts → IsInRange bundle → loading_of bundle harts ≡ Ok loaded
+    → IsLoadedSoundly bundle harts loaded
+loading_sound bundle harts loaded low high range h =
+    let from = loaded_from bundle harts (coded_tasks bundle.tasks) loaded h in
+    let zip = are_coded bundle.tasks from.tasks from.coded_is in
+    let facts = unrefused bundle harts from.tasks from.refusal in
+    let bound = bound_is bundle harts from.tasks range zip facts in
+    let here : IsLoadedSoundly bundle harts (loaded_of bundle harts from.tasks) = record {
+      sound = record { limits = limits_hold bundle harts from.tasks low high range zip facts; bound = omega (arith, bound, facts.bound_high) };
+      bound = bound;
     } in
-    rw from.loaded_is sound
+    rw from.loaded_is here
+
+pub plans_of_lines : (bundle : Bundle) (harts : ℕ) (loaded : Loaded) → IsInRange bundle → loading_of bundle harts ≡ Ok loaded → HasPlansOfLines bundle harts loaded
+plans_of_lines bundle harts loaded range h =
+    let from = loaded_from bundle harts (coded_tasks bundle.tasks) loaded h in
+    let facts = unrefused bundle harts from.tasks from.refusal in
+    let here : HasPlansOfLines bundle harts (loaded_of bundle harts from.tasks) = record {
+      named = λ line within other.
+        plan_at bundle.plans harts line.hart other (All-contains (λ l. l.hart < harts) bundle.plans line facts.harts_there within)
+        ∙ plan_of-named bundle.plans line range.plans_apart within;
+      missing = λ hart lt unnamed other. plan_at bundle.plans harts hart other lt ∙ plan_of-unnamed bundle.plans hart unnamed;
+    } in
+    rw from.loaded_is here

@@ -1,9 +1,10 @@
 -- Which bundles load, and what a refusal means, without the order in which refusals are tried (this project's own).
-use Rattle.std.specs.Prelude.{◌≡◌, ℕ, ◌<◌, ◌≤◌, ◌⊎◌, List, length, All, Contains, Result, Ok, Err}
+use Rattle.std.specs.Prelude.{◌≡◌, ◌≢◌, ℕ, ◌<◌, ◌≤◌, ◌⊎◌, List, [], length, All, Contains, Result, Ok, Err, slice_index_or}
 use Rattle.core_model.specs.declared.loaded.Loaded.{Loaded}
+use Rattle.core_model.specs.declared.plan.Plan.{Plan}
 use Rattle.core_model.specs.Events.{event_count, entry_count}
-use Rattle.core_model.specs.Limits.{max_tasks, max_code_words, max_tape_words, max_quanta, max_worlds, max_events, max_order_entries, max_action_bound}
-use Rattle.core_model.specs.Loaded.{IsLoaded}
+use Rattle.core_model.specs.Limits.{max_harts, max_tasks, max_code_words, max_tape_words, max_quanta, max_worlds, max_events, max_order_entries, max_action_bound}
+use Rattle.core_model.specs.Loaded.{action_bound_of, IsLoaded}
 use Rattle.bundle_text.specs.declared.bundle.Bundle.{Bundle}
 use Rattle.bundle_text.specs.declared.bundle.PlanText.{PlanText}
 use Rattle.bundle_text.specs.declared.bundle.TaskText.{TaskText}
@@ -51,6 +52,20 @@ IsSo bundle harts Memory = ⊥
 abbrev pub RefusalsAreSo : Type 0
 RefusalsAreSo = (bundle : Bundle) (harts : ℕ) (fault : LoadFault) → loading_of bundle harts ≡ Err fault → IsSo bundle harts fault
 
--- What a bundle in range loads as is what a core may be made of.
-abbrev pub LoadingIsLoaded : Type 0
-LoadingIsLoaded = (bundle : Bundle) (harts : ℕ) (loaded : Loaded) → 1 ≤ harts → harts ≤ 8 → IsInRange bundle → loading_of bundle harts ≡ Ok loaded → IsLoaded loaded
+-- What a bundle in range loads as is what a core may be made of, and has the bound that was judged.
+pub record IsLoadedSoundly (bundle : Bundle) (harts : ℕ) (loaded : Loaded) : Type 0 where
+  pub sound : IsLoaded loaded
+  pub bound : action_bound_of loaded ≡ bound_of bundle harts
+
+abbrev pub LoadingIsSound : Type 0
+LoadingIsSound = (bundle : Bundle) (harts : ℕ) (loaded : Loaded) → 1 ≤ harts → harts ≤ max_harts → IsInRange bundle → loading_of bundle harts ≡ Ok loaded
+    → IsLoadedSoundly bundle harts loaded
+
+-- A hart that a plan line names has the plan of this line, and any other has the tail 4,096 and no quanta.
+pub record HasPlansOfLines (bundle : Bundle) (harts : ℕ) (loaded : Loaded) : Type 0 where
+  pub named : (line : PlanText) → Contains bundle.plans line → (other : Plan) → slice_index_or loaded.plans line.hart other ≡ line.plan
+  pub missing : (hart : ℕ) → hart < harts → All (λ line. line.hart ≢ hart) bundle.plans
+      → (other : Plan) → slice_index_or loaded.plans hart other ≡ record { quanta = []; tail = 4096 }
+
+abbrev pub PlansAreOfLines : Type 0
+PlansAreOfLines = (bundle : Bundle) (harts : ℕ) (loaded : Loaded) → IsInRange bundle → loading_of bundle harts ≡ Ok loaded → HasPlansOfLines bundle harts loaded

@@ -12,5 +12,5 @@ mod placing;
 
 pub use core_model::Loaded;
 pub use fault::{LoadFault, What};
-pub use laws::{loading_is_loaded, loads_exactly_valid, refusals_are_so};
+pub use laws::{loading_is_sound, loads_exactly_valid, plans_are_of_lines, refusals_are_so};
 pub use loading::load;

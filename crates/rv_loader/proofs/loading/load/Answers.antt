@@ -3,7 +3,7 @@ use Rattle.std.proofs.Common.{◌≡◌, Ok, sym, arith}
 use Rattle.std.proofs.lemmas.Grind.{common_steps}
 use Rattle.std.proofs.lemmas.Result.{err_from_is_err_and}
 use Rattle.rv_loader.specs.Loading.{loading_of}
-use Rattle.rv_loader.proofs.Within.{loaded_is_loaded}
+use Rattle.rv_loader.proofs.Within.{loading_sound}
 use Rattle.rv_loader.proofs.Outcomes.{refusal_no_memory}
 use Rattle.rv_loader.proofs.loading.load.Goals as goal
 
@@ -16,4 +16,4 @@ pub returns-clause-valid : goal.returns-clause-valid
 returns-clause-valid c =
     let loaded = c.in_ok-loaded_of.field-0 in
     let h : loading_of c.args.bundle.now c.args.harts ≡ Ok loaded = grind (arith, common_steps) in
-    loaded_is_loaded c.args.bundle.now c.args.harts loaded c.requires.harts_low c.requires.harts_high c.requires.range h
+    (loading_sound c.args.bundle.now c.args.harts loaded c.requires.harts_low c.requires.harts_high c.requires.range h).sound
