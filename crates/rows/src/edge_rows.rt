@@ -8,7 +8,7 @@ use std::test::Fail;
 #[test]
 fn input_at_the_limit(rt: HostRuntime) -> Result<(), Fail> {
     let mut input = vec![in rt.alloc(); b' '; 4_194_304]?;
-    writes(&rt, "alone", input.as_slice(), 3, "line 1: missing\n")?;
+    writes(&rt, "alone", input.as_slice(), 3, "line 2: missing\n")?;
     input.push(b' ')?;
     writes(&rt, "asm", input.as_slice(), 3, "too large\n")?;
     input.push(b' ')?;
