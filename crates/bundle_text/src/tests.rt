@@ -30,8 +30,34 @@ const PREFIXES: [(usize, Option<(u32, BundleKind)>); 17] = [
     (101, None),
 ];
 
+/// What each case shows, a whole text, and the fault.
+const HEADS: [(&str, &str, u32, BundleKind); 7] = [
+    (
+        "a version that is no number",
+        "bundle x",
+        1,
+        BundleKind::BadNumber,
+    ),
+    ("another version", "bundle 2", 1, BundleKind::OutOfRange),
+    ("no header", "slots 1", 1, BundleKind::Misplaced),
+    ("no slots", "bundle 01\n\n#", 4, BundleKind::Missing),
+    ("nine slots", "bundle 1\nslots 9", 2, BundleKind::OutOfRange),
+    (
+        "a CR at the end of the text",
+        "bundle 1\nslots 1\r",
+        2,
+        BundleKind::BadNumber,
+    ),
+    (
+        "two CRs before a line end",
+        "bundle 1\r\r\n",
+        1,
+        BundleKind::BadNumber,
+    ),
+];
+
 /// What each case shows, the lines after `bundle 1` and `slots 1`, and the fault.
-const REFUSED: [(&str, &str, u32, BundleKind); 42] = [
+const REFUSED: [(&str, &str, u32, BundleKind); 44] = [
     ("DEL", "\x7f", 3, BundleKind::NotText),
     (
         "a byte outside the set in a comment",
@@ -145,7 +171,19 @@ const REFUSED: [(&str, &str, u32, BundleKind); 42] = [
         3,
         BundleKind::BadNumber,
     ),
+    (
+        "a run without its number",
+        "order 0*",
+        3,
+        BundleKind::BadNumber,
+    ),
     ("hart 8", "plan 8 tail 1", 3, BundleKind::OutOfRange),
+    (
+        "hart 8 of an event",
+        "events g0 t8",
+        3,
+        BundleKind::OutOfRange,
+    ),
     ("tail 0", "plan 0 tail 0", 3, BundleKind::OutOfRange),
     ("tail 4097", "plan 0 tail 4097", 3, BundleKind::OutOfRange),
     (
@@ -239,6 +277,17 @@ fn first_bytes(rt: HostRuntime) {
             &FIVE_LINES.as_bytes()[..*count],
             fault,
         );
+    }
+}
+
+#[test]
+fn faults_of_heads(rt: HostRuntime) {
+    for (shows, text, line, kind) in &HEADS {
+        let fault = BundleFault {
+            line: *line,
+            kind: *kind,
+        };
+        answers(&rt, rt.alloc(), shows, text.as_bytes(), Some(fault));
     }
 }
 
