@@ -3,7 +3,7 @@ use Rattle.std.proofs.Common.{◌≡◌, ℕ, zero, suc, ◌+◌, ◌-◌, ◌*�
 use Rattle.std.proofs.Math.Nat.{pow-suc}
 use Rattle.std.specs.Fmt.{digits, decimal, signed_decimal, digit_glyph}
 use Rattle.std.specs.List.{list_any, list_all}
-use Rattle.std.proofs.lemmas.Bool.{agree_below_at, eqb-true, eq-eqb, ne_eqb, leb-true, ltb-true, lt-ltb, le-leb, and_parts, and_from, and_left, and_right, or_from}
+use Rattle.std.proofs.lemmas.Bool.{agree_below, agree_below_at, eqb-true, eq-eqb, ne_eqb, leb-true, lt-ltb, le-leb, and_parts, and_from, and_left, and_right, or_from}
 use Rattle.std.proofs.lemmas.Fmt.{decimal_by_steps}
 use Rattle.std.proofs.lemmas.Nat.{div_below}
 use Rattle.std.proofs.lemmas.List.Folds.{list_all-append}
@@ -30,7 +30,7 @@ answer_is n None h = cc
 answer_is n (Some m) h = ap (λ k. Some k) (eqb-true m n h)
 
 -- a test that passes at each number below a written-out one
-pub below_passes : (test : ℕ → Bool) (n k : ℕ) → Rattle.std.proofs.lemmas.Bool.agree_below test (λ _. true) n ≡ true → k < n → test k ≡ true
+below_passes : (test : ℕ → Bool) (n k : ℕ) → agree_below test (λ _. true) n ≡ true → k < n → test k ≡ true
 below_passes test n k h lt = agree_below_at test (λ _. true) n k h lt
 
 -- ---- digits
