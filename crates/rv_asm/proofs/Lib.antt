@@ -7,3 +7,4 @@ pub mod Whole
 pub mod Printed
 pub mod Ended
 pub mod OnePerLine
+pub mod FewWords
