@@ -135,9 +135,9 @@ total_quanta : (lines : List PlanText) (n : ℕ) → ArePlansApart lines → All
 total_quanta [] n apart there = no_quanta 0 n
 total_quanta (line ∷ lines) n apart there =
     let at_it : (k : ℕ) → nat_eq line.hart k ≡ true → plan_of lines k ≡ missing_plan =
-      λ k h. ap (plan_of lines) (sym (equal line.hart k h)) ∙ unnamed lines line.hart apart.0 in
+    λ k h. ap (plan_of lines) (sym (equal line.hart k h)) ∙ unnamed lines line.hart apart.0 in
     let parts = total_of_sum (λ k. size_of (plan_of (line ∷ lines) k)) (only_at line.hart (size_of line.plan)) (λ k. size_of (plan_of lines k))
-        (λ k. split (nat_eq line.hart k) line.plan (plan_of lines k) (at_it k)) 0 n in
+    (λ k. split (nat_eq line.hart k) line.plan (plan_of lines k) (at_it k)) 0 n in
     let here = total_one line.hart (size_of line.plan) 0 n (omega arith) (omega (arith, All-head (λ l. l.hart < n) line lines there)) in
     let later = total_quanta lines n apart.1 (All-tail (λ l. l.hart < n) line lines there) in
     omega (arith, parts, here, later, sum_by-cons (λ l. size_of l.plan) line lines)

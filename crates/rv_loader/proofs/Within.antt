@@ -191,8 +191,8 @@ plans_of_lines bundle harts loaded range h =
     let facts = unrefused bundle harts from.tasks from.refusal in
     let here : HasPlansOfLines bundle harts (loaded_of bundle harts from.tasks) = record {
       named = λ line within other.
-        plan_at bundle.plans harts line.hart other (All-contains (λ l. l.hart < harts) bundle.plans line facts.harts_there within)
-        ∙ plan_of-named bundle.plans line range.plans_apart within;
+          plan_at bundle.plans harts line.hart other (All-contains (λ l. l.hart < harts) bundle.plans line facts.harts_there within)
+          ∙ plan_of-named bundle.plans line range.plans_apart within;
       missing = λ hart lt unnamed other. plan_at bundle.plans harts hart other lt ∙ plan_of-unnamed bundle.plans hart unnamed;
     } in
     rw from.loaded_is here
