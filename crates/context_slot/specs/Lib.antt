@@ -1,0 +1,5 @@
+pub mod Output
+pub mod FitsTask
+pub mod Fresh
+pub mod DataBank
+pub mod Laws

@@ -1,0 +1,6 @@
+pub mod Bodies
+pub mod Admitted
+pub mod Gives
+pub mod Tasks
+pub mod HasRoom
+pub mod Laws
