@@ -1,0 +1,12 @@
+//! The kernel's code as words.
+#![tactic(auto)]
+
+mod assembling;
+mod code;
+mod kernel_text;
+mod label;
+mod line;
+mod mnemonics;
+mod text;
+
+pub use code::{KernelCode, kernel_code, link, naive_code};
