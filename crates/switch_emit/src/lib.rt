@@ -5,6 +5,7 @@ mod assembling;
 mod code;
 mod kernel_text;
 mod label;
+pub mod laws;
 mod line;
 mod mnemonics;
 mod text;
