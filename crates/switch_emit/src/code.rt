@@ -5,8 +5,9 @@ ghost use Rattle.hart_model.specs.MachineStep.{kernel_address};
 ghost use Rattle.core_model.specs.KernelWords as definition;
 ghost use Rattle.switch_emit.specs.Lines.{label_of};
 
-use crate::kernel_text::{append_kernel, append_last, append_middle, append_naive};
+use crate::kernel_text::{append_kernel, append_last, append_middle};
 use crate::label::Label;
+use crate::naive_text::append_naive;
 use crate::text::Text;
 use isa_model::Words;
 use std::alloc::{AllocError, Global};
@@ -80,8 +81,8 @@ pub fn naive_code(alloc: Global) -> Result<KernelCode, AllocError>
 
 /// The kernel's code with other words for its save part and its restore part.
 pub fn link(alloc: Global, save: &[u32], restore: &[u32]) -> Result<KernelCode, AllocError>
-    requires save { length save.now ≤ 300 }
-    requires restore { length restore.now ≤ 300 }
+    requires save { length save.now ≤ PART_MAX }
+    requires restore { length restore.now ≤ PART_MAX }
     ensures code { IfOk result (λ code. code ≡ definition.linked_code save.now restore.now) }
 {
     let mut text = Text::new(alloc);

@@ -1,13 +1,13 @@
 //! The kernel's text, in the order and the groups of its definition.
 
-ghost use Rattle.std.specs.Prelude.{◌≡◌, ◌<◌, [], ◌∷◌, ◌++◌, flat_map, OnOk};
-ghost use Rattle.core_model.specs.KernelText.{x5, saved, saved_bound, registers_but_x5, save_register, save_lines, cause_lines, interrupt_lines, service_lines, yield_lines, exit_lines, out_lines, in_lines, finish_lines, ready_lines, take_lines, middle_lines, restore_lines, last_lines, kernel_lines, naive_lines, sw as store_word};
+ghost use Rattle.std.specs.Prelude.{◌≡◌, ◌<◌, ◌++◌, flat_map, OnOk};
+ghost use Rattle.core_model.specs.KernelText.{saved, saved_bound, registers_but_x5, save_register, save_lines, cause_lines, interrupt_lines, service_lines, yield_lines, exit_lines, out_lines, in_lines, finish_lines, ready_lines, take_lines, middle_lines, restore_lines, last_lines, kernel_lines};
 
 use crate::label::Label;
 use crate::line::Line;
 use crate::mnemonics::{
     MCAUSE, MEPC, MSCRATCH, PMPADDR0, X0, X5, X6, X7, add, addi, at, beq, blt, clear_load,
-    clear_store, csrrs, csrrw, jal, jal_to_itself, lui, lw, mret, port, sw,
+    clear_store, csrrs, csrrw, jal, lui, lw, mret, port, sw,
 };
 use crate::text::Text;
 use hart_model::Port;
@@ -17,7 +17,7 @@ use std::alloc::AllocError;
 const SAVED_PC: u16 = 0;
 
 /// The word of a slot that keeps a register.
-fn saved(register: u8) -> u16
+pub fn saved(register: u8) -> u16
     requires register { register < 32 }
     ensures offset { result ≡ saved register }
 {
@@ -44,6 +44,7 @@ fn save_register(register: u8) -> [Line; 3]
     ]
 }
 
+/// Every register but x5 goes to its slot word.
 fn append_saves(text: &mut Text) -> Result<(), AllocError>
     ensures lines { OnOk result (text.new ≡ text.old ++ flat_map save_register registers_but_x5) }
 {
@@ -137,12 +138,14 @@ fn service_lines() -> [Line; 17]
     ]
 }
 
+/// Yield: the task goes on later.
 fn yield_lines() -> [Line; 3]
     ensures lines { result ≡ yield_lines }
 {
     [at(Label::DoYield), addi(X6, X0, 0), jal(X0, Label::Ready)]
 }
 
+/// Exit: the task ends with a0.
 fn exit_lines() -> [Line; 8]
     ensures lines { result ≡ exit_lines }
 {
@@ -158,6 +161,7 @@ fn exit_lines() -> [Line; 8]
     ]
 }
 
+/// Out: a0 goes to the output, if that has room.
 fn out_lines() -> [Line; 14]
     ensures lines { result ≡ out_lines }
 {
@@ -179,6 +183,7 @@ fn out_lines() -> [Line; 14]
     ]
 }
 
+/// In: a0 gets the next word of the tape, if there is one.
 fn in_lines() -> [Line; 15]
     ensures lines { result ≡ in_lines }
 {
@@ -216,6 +221,7 @@ fn append_finish(text: &mut Text) -> Result<(), AllocError>
     ])
 }
 
+/// A task that goes on later is given back.
 fn ready_lines() -> [Line; 2]
     ensures lines { result ≡ ready_lines }
 {
@@ -223,7 +229,7 @@ fn ready_lines() -> [Line; 2]
 }
 
 /// The next context: its slot's address goes to mscratch, its bounds to the protection, its pc to mepc.
-fn take_lines() -> [Line; 14]
+pub fn take_lines() -> [Line; 14]
     ensures lines { result ≡ take_lines }
 {
     [
@@ -285,29 +291,6 @@ pub fn append_kernel(text: &mut Text) -> Result<(), AllocError>
 {
     append_save(text)?;
     append_middle(text)?;
-    append_restore(text)?;
-    append_last(text)
-}
-
-fn append_naive_saves(text: &mut Text) -> Result<(), AllocError>
-    ensures lines { OnOk result (text.new ≡ text.old ++ flat_map (λ i. store_word i (saved i) x5 ∷ []) registers_but_x5) }
-{
-    for register in 1..32 {
-        if register != X5 {
-            text.append([sw(register, saved(register), X5)])?;
-        }
-    }
-    Ok(())
-}
-
-/// The text of a kernel for demonstration alone, whose save clears nothing and then loops.
-pub fn append_naive(text: &mut Text) -> Result<(), AllocError>
-    ensures lines { OnOk result (text.new ≡ text.old ++ naive_lines) }
-{
-    text.append([at(Label::Entry), csrrw(X5, MSCRATCH, X5)])?;
-    append_naive_saves(text)?;
-    text.append([jal_to_itself(X0)])?;
-    text.append(take_lines())?;
     append_restore(text)?;
     append_last(text)
 }

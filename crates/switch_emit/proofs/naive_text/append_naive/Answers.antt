@@ -1,6 +1,6 @@
 use Rattle.std.proofs.Common.{append_assoc}
 use Rattle.std.proofs.lemmas.Result.{IfOk-equal}
-use Rattle.switch_emit.proofs.kernel_text.append_naive.Goals as goal
+use Rattle.switch_emit.proofs.naive_text.append_naive.Goals as goal
 
 pub returns : goal.returns
 returns c = record { lines = IfOk-equal _ _ _ _ c.append_last.ensures.lines

@@ -1,8 +1,8 @@
 use Rattle.std.proofs.Common.{ℕ, List, [], ◌∷◌, arith}
 use Rattle.core_model.specs.KernelText.{Line, sw, saved, x5}
 use Rattle.switch_emit.proofs.Registers.{next_kept, next_skipped, all_kept}
-use Rattle.switch_emit.proofs.kernel_text.append_naive_saves.Goals as goal
-use Rattle.switch_emit.proofs.kernel_text.append_naive_saves.Goals.{then-register-ne-X5+in_ok-append, else-register-ne-X5}
+use Rattle.switch_emit.proofs.naive_text.append_naive_saves.Goals as goal
+use Rattle.switch_emit.proofs.naive_text.append_naive_saves.Goals.{then-register-ne-X5+in_ok-append, else-register-ne-X5}
 
 abbrev stored : ℕ → List Line
 stored i = sw i (saved i) x5 ∷ []

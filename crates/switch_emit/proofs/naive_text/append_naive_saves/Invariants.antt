@@ -2,7 +2,7 @@
 use Rattle.std.proofs.Common.{◌≡◌, ◌-◌, ◌++◌, ◌∷◌, [], not, ◌==◌}
 use Rattle.std.specs.List.{flat_map, filter}
 use Rattle.core_model.specs.KernelText.{numbers_from, registers_but_x5, sw, saved, x5}
-use Rattle.switch_emit.proofs.kernel_text.append_naive_saves.Given as goal
+use Rattle.switch_emit.proofs.naive_text.append_naive_saves.Given as goal
 
 abbrev pub invariant-loop-register : goal.invariant-loop-register
 invariant-loop-register l =
