@@ -1,13 +1,13 @@
 -- The words of a kernel with other parts.
-use Rattle.std.proofs.Common.{◌≡◌, ℕ, suc, ◌+◌, ◌*◌, ℤ, pos, ◌-ℤ◌, Bool, true, false, List, [], ◌∷◌, ◌++◌, length, map, refl, ap, ◌∙◌, sym, arith, add-zero, zero-add, add-one, append_assoc, length-append}
-use Rattle.std.specs.Prelude.{slice_range, if◌then◌else◌}
+use Rattle.std.proofs.Common.{◌≡◌, ℕ, ◌+◌, ◌*◌, ℤ, pos, ◌-ℤ◌, List, [], ◌∷◌, ◌++◌, length, map, refl, ap, ◌∙◌, sym, arith, add-zero, zero-add, append_assoc}
+use Rattle.std.specs.Prelude.{slice_range}
 use Rattle.std.proofs.lemmas.Int.{ints}
 use Rattle.isa_model.specs.declared.instr.Instr.TheVariants.{Jal, Branch, Mret}
 use Rattle.isa_model.specs.declared.instr.Cmp.TheVariants.{Beq}
 use Rattle.isa_model.specs.Encoding.{word_of}
 use Rattle.core_model.specs.KernelText.{Label, Idle, Take, Line, At, Does, Branches, Jumps, Word, middle_lines, last_lines, x0, x5}
-use Rattle.core_model.specs.KernelWords.{same_label, words_before, distance, words_from, words_of, kernel_words, linked_lines, linked_words, linked_code}
-use Rattle.switch_emit.specs.Linked.{middle_words, last_words, branch_over}
+use Rattle.core_model.specs.KernelWords.{words_before, distance, words_from, words_of, kernel_words, linked_lines, linked_words, linked_code}
+use Rattle.switch_emit.specs.Linked.{middle_words, last_words}
 
 -- given words are themselves, wherever they stand
 words_from-given : (text : List Line) (at : ℕ) (words : List ℕ) (rest : List Line)
@@ -64,7 +64,7 @@ linked_words-save save restore =
     let text = map Word save ++ rest in
     let e : 0 + length save ≡ length save + 0 = omega arith in
     let moved : words_from text (0 + length save) rest ≡ words_of rest =
-        rw e (words_from-moved (length save) text rest (λ label. words_before-given label save rest) 0 rest) in
+    rw e (words_from-moved (length save) text rest (λ label. words_before-given label save rest) 0 rest) in
     ap words_of (linked_lines-is save restore) ∙ (words_from-given text 0 save rest ∙ ap (λ ws. save ++ ws) moved)
 
 idle_after : (restore : List ℕ) → words_before Idle (after_save restore) ≡ length restore + 114

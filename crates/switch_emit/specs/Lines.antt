@@ -1,5 +1,5 @@
 -- What the code's labels and lines stand for: those of the kernel's text.
-use Rattle.std.specs.Prelude.{◌≡◌, ℕ, ◌+◌, ◌<◌, List, ◌∷◌}
+use Rattle.std.specs.Prelude.{◌≡◌, ◌+◌, ◌<◌, List, ◌∷◌}
 use Rattle.isa_model.specs.Encoding.{IsInstr}
 use Rattle.core_model.specs.KernelText as text
 use Rattle.core_model.specs.KernelWords.{words_before}
@@ -8,6 +8,7 @@ use Rattle.switch_emit.specs.declared.label.Label.TheVariants.{Entry, Interrupt,
 use Rattle.switch_emit.specs.declared.line.Item.{Item}
 use Rattle.switch_emit.specs.declared.line.Item.TheVariants.{At, Does, Branches, Jumps, Word}
 
+-- the label of the definition
 abbrev pub label_of : Label → text.Label
 label_of Entry = text.Entry
 label_of Interrupt = text.Interrupt
@@ -24,6 +25,7 @@ label_of Ready = text.Ready
 label_of Take = text.Take
 label_of Idle = text.Idle
 
+-- the line of the definition
 abbrev pub line_of : Item → text.Line
 line_of (At label) = text.At (label_of label)
 line_of (Does instr) = text.Does instr

@@ -1,7 +1,6 @@
 //! The kernel's code.
 
 ghost use Rattle.std.specs.Prelude.{◌≡◌, ◌<◌, ◌≤◌, length, IfOk};
-ghost use Rattle.hart_model.specs.MachineStep.{kernel_address};
 ghost use Rattle.core_model.specs.KernelWords as definition;
 ghost use Rattle.switch_emit.specs.Lines.{label_of};
 

@@ -11,16 +11,28 @@ use crate::line::Line;
 use hart_model::Port;
 use isa_model::{Alu, Cmp, CsrOp, Instr, LoadKind, RegNo, StoreKind};
 
-/// The registers that the kernel names.
+/// The register that is always 0.
 pub const X0: u8 = 0;
+
+/// The register that has the slot's address in the kernel.
 pub const X5: u8 = 5;
+
+/// The kernel's first register for work.
 pub const X6: u8 = 6;
+
+/// The kernel's second register for work.
 pub const X7: u8 = 7;
 
-/// The CSRs that the kernel names.
+/// The CSR that has the slot's address while a task runs.
 pub const MSCRATCH: u16 = 0x340;
+
+/// The CSR that has the pc at which the task was left.
 pub const MEPC: u16 = 0x341;
+
+/// The CSR that says why the task was left.
 pub const MCAUSE: u16 = 0x342;
+
+/// The first of the four address registers of the protection.
 pub const PMPADDR0: u16 = 0x3b0;
 
 /// The address of the word that is always 0.
@@ -41,6 +53,7 @@ pub fn at(label: Label) -> Line
     Line::at(label)
 }
 
+/// rd = rs1 + rs2.
 pub fn add(rd: u8, rs1: u8, rs2: u8) -> Line
     requires rd { rd < 32 }
     requires rs1 { rs1 < 32 }
@@ -55,6 +68,7 @@ pub fn add(rd: u8, rs1: u8, rs2: u8) -> Line
     })
 }
 
+/// rd = rs1 + imm.
 pub fn addi(rd: u8, rs1: u8, imm: u16) -> Line
     requires rd { rd < 32 }
     requires rs1 { rs1 < 32 }
@@ -69,6 +83,7 @@ pub fn addi(rd: u8, rs1: u8, imm: u16) -> Line
     })
 }
 
+/// rd = imm20 in its upper 20 bits.
 pub fn lui(rd: u8, imm20: u32) -> Line
     requires rd { rd < 32 }
     requires imm20 { imm20 < 2 ^ 20 }
@@ -77,6 +92,7 @@ pub fn lui(rd: u8, imm20: u32) -> Line
     Line::does(Instr::Lui { rd: x(rd), imm20 })
 }
 
+/// rd = the word at base + offset.
 pub fn lw(rd: u8, offset: u16, base: u8) -> Line
     requires rd { rd < 32 }
     requires offset { offset < 2 ^ 11 }
@@ -91,6 +107,7 @@ pub fn lw(rd: u8, offset: u16, base: u8) -> Line
     })
 }
 
+/// The word at base + offset = rs2.
 pub fn sw(rs2: u8, offset: u16, base: u8) -> Line
     requires rs2 { rs2 < 32 }
     requires offset { offset < 2 ^ 11 }
@@ -105,6 +122,7 @@ pub fn sw(rs2: u8, offset: u16, base: u8) -> Line
     })
 }
 
+/// rd = the CSR, and then the CSR = rs1.
 pub fn csrrw(rd: u8, csr: u16, rs1: u8) -> Line
     requires rd { rd < 32 }
     requires csr { csr < 2 ^ 12 }
@@ -119,6 +137,7 @@ pub fn csrrw(rd: u8, csr: u16, rs1: u8) -> Line
     })
 }
 
+/// rd = the CSR, in which the bits of rs1 are set.
 pub fn csrrs(rd: u8, csr: u16, rs1: u8) -> Line
     requires rd { rd < 32 }
     requires csr { csr < 2 ^ 12 }
@@ -133,12 +152,14 @@ pub fn csrrs(rd: u8, csr: u16, rs1: u8) -> Line
     })
 }
 
+/// The return from a trap.
 pub fn mret() -> Line
     ensures line { result ≡ mret }
 {
     Line::does(Instr::Mret)
 }
 
+/// To the label where rs1 = rs2.
 pub fn beq(rs1: u8, rs2: u8, to: Label) -> Line
     requires rs1 { rs1 < 32 }
     requires rs2 { rs2 < 32 }
@@ -147,6 +168,7 @@ pub fn beq(rs1: u8, rs2: u8, to: Label) -> Line
     Line::branches(Cmp::Beq, x(rs1), x(rs2), to)
 }
 
+/// To the label where rs1 < rs2 as signed numbers.
 pub fn blt(rs1: u8, rs2: u8, to: Label) -> Line
     requires rs1 { rs1 < 32 }
     requires rs2 { rs2 < 32 }
@@ -155,6 +177,7 @@ pub fn blt(rs1: u8, rs2: u8, to: Label) -> Line
     Line::branches(Cmp::Blt, x(rs1), x(rs2), to)
 }
 
+/// To the label; rd = the address of the next instruction.
 pub fn jal(rd: u8, to: Label) -> Line
     requires rd { rd < 32 }
     ensures line { result ≡ jal rd (label_of to) }

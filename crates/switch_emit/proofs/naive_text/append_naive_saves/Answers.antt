@@ -13,11 +13,12 @@ loop-register-preserved c =
     let lines = c.loop-register.text in
     let below = c.loop-register-test.true in
     elim c.if-register-ne-X5.branch [
-        then-register-ne-X5+in_ok-append w ↦
-            rw (w.text-is, w.in_ok-append.ensures.lines, w.sw.ensures.line, w.saved.ensures.offset)
-            (next_kept stored r lines _ below w.if-register-ne-X5.true c.loop-register.invariant)
+      | then-register-ne-X5+in_ok-append w ↦
+          rw (w.text-is, w.in_ok-append.ensures.lines, w.sw.ensures.line, w.saved.ensures.offset)
+          (next_kept stored r lines _ below w.if-register-ne-X5.true c.loop-register.invariant)
       | else-register-ne-X5 w ↦
-            rw w.text-is (next_skipped stored r lines _ below w.if-register-ne-X5.false c.loop-register.invariant) ]
+          rw w.text-is (next_skipped stored r lines _ below w.if-register-ne-X5.false c.loop-register.invariant)
+    ]
 
 pub returns : goal.returns
 returns c =
