@@ -1,0 +1,25 @@
+use Rattle.std.proofs.Common.{ℕ, List, [], ◌∷◌, arith}
+use Rattle.core_model.specs.KernelText.{Line, sw, saved, x5}
+use Rattle.switch_emit.proofs.Registers.{next_kept, next_skipped, all_kept}
+use Rattle.switch_emit.proofs.naive_text.append_naive_saves.Goals as goal
+use Rattle.switch_emit.proofs.naive_text.append_naive_saves.Goals.{then-register-ne-X5+in_ok-append, else-register-ne-X5}
+
+abbrev stored : ℕ → List Line
+stored i = sw i (saved i) x5 ∷ []
+
+pub loop-register-preserved : goal.loop-register-preserved
+loop-register-preserved c =
+    let r = c.loop-register.register in
+    let lines = c.loop-register.text in
+    let below = c.loop-register-test.true in
+    elim c.if-register-ne-X5.branch [
+      | then-register-ne-X5+in_ok-append w ↦
+          rw (w.text-is, w.in_ok-append.ensures.lines, w.sw.ensures.line, w.saved.ensures.offset)
+          (next_kept stored r lines _ below w.if-register-ne-X5.true c.loop-register.invariant)
+      | else-register-ne-X5 w ↦
+          rw w.text-is (next_skipped stored r lines _ below w.if-register-ne-X5.false c.loop-register.invariant)
+    ]
+
+pub returns : goal.returns
+returns c =
+    record { lines = all_kept stored c.loop-register.register c.loop-register.text _ (omega arith) c.loop-register.invariant }
