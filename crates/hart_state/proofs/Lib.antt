@@ -1,0 +1,4 @@
+pub mod WritesInTwo
+pub mod NextAligned
+pub mod BesideWords
+pub mod Following

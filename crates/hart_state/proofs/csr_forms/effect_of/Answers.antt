@@ -1,0 +1,12 @@
+-- It goes on at a multiple of 4, as its definition does.
+use Rattle.std.proofs.Common.{ap, sym, subst}
+use Rattle.isa_model.specs.Effect.{Next, Effect}
+use Rattle.hart_state.specs.Aligned.{GoesAligned}
+use Rattle.hart_state.specs.View.{operands_of_values}
+use Rattle.hart_state.proofs.NextAligned.{next_aligned}
+use Rattle.hart_state.proofs.csr_forms.effect_of.Goals as goal
+
+pub returns-clause-aligned : goal.returns-clause-aligned
+returns-clause-aligned c =
+    let same = ap (λ (e : Effect). e.next) c.effect_by_form.ensures.effect in
+    subst (λ (n : Next). GoesAligned n) (sym same) (next_aligned c.args.instr.now c.args.pc (operands_of_values c.args.o.now) c.requires.aligned)

@@ -1,0 +1,9 @@
+pub mod PlaceBounds
+pub mod Reached
+pub mod View
+pub mod EffectView
+pub mod WriterView
+pub mod Aligned
+pub mod UserDeed
+pub mod PortView
+pub mod ReachView

@@ -1,0 +1,26 @@
+-- What an instruction in user mode begins with (this project's own).
+use Rattle.std.specs.Prelude.{◌≡◌, ◌+◌, ◌^◌, ◌<◌, Option, Some, None}
+use Rattle.hart_model.specs.Context.{ContextState}
+use Rattle.hart_model.specs.HartState.{HartState}
+use Rattle.hart_model.specs.UserStep.{user_effect}
+use Rattle.hart_state.specs.declared.user.UserDeed.{UserDeed}
+use Rattle.hart_state.specs.declared.writer.Writer.TheVariants.{User}
+use Rattle.hart_state.specs.Aligned.{GoesAligned}
+use Rattle.hart_state.specs.View.{next_of}
+use Rattle.hart_state.specs.EffectView.{effect_of_outcome}
+
+-- the count of what is held has room for one instruction more
+abbrev pub CanCount : Option ContextState → Type 0
+CanCount None = Unit {0}
+CanCount (Some c) = c.body.count + 1 < 2 ^ 32
+
+-- the task's next step, with the effect of the instruction at the pc
+pub record IsUserDeed (h : HartState) (c : ContextState) (d : UserDeed) : Type 0 where
+  pub writer : d.writer ≡ User c.body.task_no (c.body.count + 1)
+  pub effect : effect_of_outcome d.outcome ≡ user_effect h c.body
+  pub aligned : GoesAligned (next_of d.outcome.next)
+
+abbrev pub HasUserDeed : HartState → Option ContextState → Option UserDeed → Type 0
+HasUserDeed h None None = Unit {0}
+HasUserDeed h (Some c) (Some d) = IsUserDeed h c d
+HasUserDeed h held deed = ⊥

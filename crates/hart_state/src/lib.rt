@@ -1,0 +1,27 @@
+//! An emulated hart: one step of it is that of the machine, and each write of a latch makes its entry in the log. None of it takes
+//! memory.
+#![tactic(auto)]
+
+mod cells;
+mod csr_forms;
+mod effect;
+mod flow;
+mod forms;
+mod hart;
+mod machine;
+mod outcome;
+mod ports;
+mod reach;
+mod registers;
+mod stepping;
+mod user;
+mod user_operands;
+mod writer;
+mod writes;
+mod writing;
+
+pub use context_slot::Context;
+pub use hart::Hart;
+pub use hart_model::{Cell, Did, Mode, QueueCall, Tag};
+pub use isa_model::Latch;
+pub use probe_log::Keeper;
