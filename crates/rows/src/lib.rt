@@ -8,4 +8,6 @@ mod edge_rows;
 #[cfg(test)]
 mod harness;
 #[cfg(test)]
+mod kernel_rows;
+#[cfg(test)]
 mod refused_rows;
