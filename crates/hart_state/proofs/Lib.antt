@@ -1,4 +1,7 @@
-pub mod WritesInTwo
 pub mod NextAligned
 pub mod BesideWords
 pub mod Following
+pub mod Asking
+pub mod Giving
+pub mod TakeAnswer
+pub mod Asks

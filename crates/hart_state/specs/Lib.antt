@@ -7,3 +7,4 @@ pub mod Aligned
 pub mod UserDeed
 pub mod PortView
 pub mod ReachView
+pub mod Asked

@@ -2,6 +2,7 @@
 //! memory.
 #![tactic(auto)]
 
+mod answering;
 mod cells;
 mod csr_forms;
 mod effect;
@@ -25,3 +26,6 @@ pub use hart::Hart;
 pub use hart_model::{Cell, Did, Mode, QueueCall, Tag};
 pub use isa_model::Latch;
 pub use probe_log::Keeper;
+
+#[cfg(test)]
+mod tests;
