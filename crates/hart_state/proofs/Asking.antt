@@ -1,5 +1,5 @@
 -- Which steps ask the queue, and how short a take begins.
-use Rattle.std.proofs.Common.{◌≡◌, ℕ, zero, suc, ◌+◌, ◌%◌, ◌≤◌, ◌==◌, ◌&&◌, Bool, true, false, List, [], ◌∷◌, ◌++◌, length, Option, Some, None, nat_lt, is_none, is_some, option_map, ℤ, if◌then◌else◌, refl, ap, sym, subst, ◌∙◌, arith}
+use Rattle.std.proofs.Common.{◌≡◌, ℕ, zero, suc, ◌%◌, ◌≤◌, ◌==◌, ◌&&◌, Bool, true, false, [], ◌∷◌, ◌++◌, length, Option, Some, None, nat_lt, is_none, is_some, option_map, ℤ, if◌then◌else◌, ap, sym, subst, arith}
 use Rattle.std.proofs.lemmas.Bool.{cond_both}
 use Rattle.isa_model.specs.declared.instr.Instr.{Instr}
 use Rattle.isa_model.specs.declared.instr.Instr.TheVariants.{Lui, Auipc, Jal, Jalr, Branch, Load, Store, AluImm, AluReg, Fence, Ecall, Ebreak, Mret, Csr, CsrImm}
@@ -25,7 +25,7 @@ use Rattle.hart_model.specs.HartState.{HartState, hart_cell}
 use Rattle.hart_model.specs.Ports.{SideEffect, PortAnswer, Passes, AsksQueue, Refuses, port_load, port_store, give_answer, fault_answer, end_of_code}
 use Rattle.hart_model.specs.Writes.{HartAndProbes}
 use Rattle.hart_model.specs.UserStep.{user_effect, user_step, user_instr_step, by_interrupt, after_user_writes, is_fuel_used}
-use Rattle.hart_model.specs.MachineStep.{Target, AtPlace, AtPort, Nowhere, Reach, Finds, NeedsQueue, Refused, finds_nothing, csr_reach, enters_nothing, target_of, OperandCells, operand_cells, operand_values, load_by_port, store_by_port, load_reach, store_reach, reach_of, by_csrs, by_next, csrs_after_effect}
+use Rattle.hart_model.specs.MachineStep.{Target, AtPlace, AtPort, Nowhere, NeedsQueue, Refused, finds_nothing, csr_reach, enters_nothing, target_of, OperandCells, operand_cells, operand_values, load_by_port, store_by_port, load_reach, store_reach, reach_of, by_csrs, by_next, csrs_after_effect}
 use Rattle.isa_model.specs.declared.ends.End.{End}
 use Rattle.hart_state.specs.Asked.{HasAsked, BeginsShort}
 

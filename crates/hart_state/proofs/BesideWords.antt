@@ -1,5 +1,5 @@
 -- What holds of what is held, whatever cells its words have, still holds after writes.
-use Rattle.std.proofs.Common.{◌≡◌, ℕ, List, [], ◌∷◌, Option, Some, None, refl, subst, sym}
+use Rattle.std.proofs.Common.{ℕ, List, [], ◌∷◌, Option, Some, None}
 use Rattle.hart_model.specs.declared.place.Place.{Place}
 use Rattle.hart_model.specs.declared.place.Place.TheVariants.{Reg, PortA, PortB, Res, Load, Store, Scr, Zero, SlotWord, DataWord}
 use Rattle.hart_model.specs.declared.tag.Cell.{Cell}

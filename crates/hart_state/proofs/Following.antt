@@ -1,14 +1,14 @@
 -- What follows the writes of an instruction, in both modes.
-use Rattle.std.proofs.Common.{◌≡◌, ℕ, ◌+◌, Bool, true, List, Option, Some, None, is_some, unwrap_or, refl, ap, sym, ◌∙◌}
+use Rattle.std.proofs.Common.{◌≡◌, ℕ, ◌+◌, true, List, Option, Some, None, is_some, unwrap_or, refl, ap, ◌∙◌}
 use Rattle.isa_model.specs.Effect.{Next, Goes, Raises, Calls, Returns, Effect}
 use Rattle.hart_model.specs.declared.probe.Probe.{Probe}
 use Rattle.hart_model.specs.Csrs.{CsrFile}
 use Rattle.hart_model.specs.Ports.{SideEffect}
 use Rattle.hart_model.specs.Context.{ContextState, BodyState}
 use Rattle.hart_model.specs.HartState.{HartState}
-use Rattle.hart_model.specs.Writes.{HartAndProbes, after_writes}
+use Rattle.hart_model.specs.Writes.{after_writes}
 use Rattle.hart_model.specs.StepResult.{hart_after, probes_of}
-use Rattle.hart_model.specs.UserStep.{user_effect, user_writes, with_next_count, no_writes, after_user_writes, after_user_effect, user_instr_step}
+use Rattle.hart_model.specs.UserStep.{user_writes, with_next_count, no_writes, after_user_writes, after_user_effect, user_instr_step}
 use Rattle.hart_model.specs.MachineStep.{by_csrs, after_side}
 use Rattle.hart_state.specs.declared.user.UserDeed.{UserDeed}
 use Rattle.hart_state.specs.declared.writer.OperandCells.{OperandCells}

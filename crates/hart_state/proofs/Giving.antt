@@ -1,5 +1,5 @@
 -- What an instruction has begun with that asks the queue leaves what is held as it is; and a give has something to give.
-use Rattle.std.proofs.Common.{◌≡◌, ℕ, zero, suc, ◌+◌, ◌%◌, ◌==◌, ◌&&◌, Bool, true, false, List, [], ◌∷◌, ◌++◌, length, Option, Some, None, option_map, is_none, is_some, nat_lt, slice_get, if◌then◌else◌, ℤ, refl, ap, sym, subst, ◌∙◌}
+use Rattle.std.proofs.Common.{◌≡◌, ℕ, zero, suc, ◌%◌, ◌==◌, ◌&&◌, Bool, true, false, [], ◌∷◌, ◌++◌, length, Option, Some, None, option_map, is_none, is_some, nat_lt, slice_get, if◌then◌else◌, ℤ, refl, ap, sym, subst}
 use Rattle.std.proofs.lemmas.Bool.{cond_both}
 use Rattle.isa_model.specs.declared.instr.Instr.{Instr}
 use Rattle.isa_model.specs.declared.instr.Instr.TheVariants.{Lui, Auipc, Jal, Jalr, Branch, Load, Store, AluImm, AluReg, Fence, Ecall, Ebreak, Mret, Csr, CsrImm}
@@ -25,7 +25,7 @@ use Rattle.hart_model.specs.Taint.{is_public}
 use Rattle.hart_model.specs.Context.{ContextState}
 use Rattle.hart_model.specs.HartState.{HartState, hart_cell}
 use Rattle.hart_model.specs.Ports.{PortAnswer, Passes, AsksQueue, Refuses, port_at, port_load, port_store, tape_answer, give_answer, fault_answer, end_of_code}
-use Rattle.hart_model.specs.Writes.{CellWrite, placed, cell_writes, after_writes}
+use Rattle.hart_model.specs.Writes.{placed, cell_writes, after_writes}
 use Rattle.hart_model.specs.MachineStep.{Target, AtPlace, AtPort, Nowhere, NeedsQueue, OperandCells, machine_bases, place_or_port, target_of, operand_cells, operand_values, load_by_port, store_by_port, load_reach, store_reach, reach_of}
 use Rattle.hart_state.specs.Asked.{GivesHeld}
 use Rattle.hart_state.proofs.Asking.{load-asks, csr-asks, found-asks, refused-asks}

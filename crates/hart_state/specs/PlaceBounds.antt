@@ -1,5 +1,5 @@
 -- The places that a hart has at the moment (this project's own).
-use Rattle.std.specs.Prelude.{ℕ, ◌<◌}
+use Rattle.std.specs.Prelude.{◌<◌}
 use Rattle.hart_model.specs.declared.place.Place.{Place}
 use Rattle.hart_model.specs.declared.place.Place.TheVariants.{SlotWord, DataWord}
 use Rattle.hart_model.specs.Cells.{Bases}

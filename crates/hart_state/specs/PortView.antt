@@ -1,5 +1,5 @@
 -- What contracts see of the answers of ports, and when their side effects are possible (this project's own).
-use Rattle.std.specs.Prelude.{◌<◌, length, Option, Some, None}
+use Rattle.std.specs.Prelude.{◌<◌, length, Option, Some}
 use Rattle.hart_model.specs.Context.{ContextState}
 use Rattle.hart_model.specs.Ports.{SideEffect, Nothing, Outputs, AdvancesTape, Ends, ClearsTimer, PortAnswer, Passes, AsksQueue, Refuses}
 use Rattle.hart_state.specs.declared.ports.Side.{Side}

@@ -1,6 +1,6 @@
 -- What contracts see of an effect of the code: each is the value of the definitions that it stands for (this project's own).
-use Rattle.std.specs.Prelude.{ℕ, List, [], ◌∷◌, map, Option, None, Some, option_map}
-use Rattle.isa_model.specs.Effect.{Operand, Rs1, Rs2, Word, OldCsr, Flow, Constant, Moved, Mixed, Write, CsrWrite, Next, Goes, Raises, Calls, Returns, Effect, Operands}
+use Rattle.std.specs.Prelude.{[], ◌∷◌, Option, None, Some}
+use Rattle.isa_model.specs.Effect.{Operand, Rs1, Rs2, Word, OldCsr, Flow, Constant, Moved, Mixed, Write, CsrWrite, Next, Goes, Raises, Calls, Returns, Operands}
 use Rattle.hart_state.specs.declared.flow.Source.{Source}
 use Rattle.hart_state.specs.declared.flow.Source.TheVariants as sources
 use Rattle.hart_state.specs.declared.flow.Inflow.{Inflow}

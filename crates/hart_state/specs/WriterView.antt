@@ -1,20 +1,17 @@
 -- What contracts see of who writes: the tags of the writes, and where they go (this project's own).
-use Rattle.std.specs.Prelude.{ℕ, Bool, true, false, List, map, Option}
+use Rattle.std.specs.Prelude.{Bool, true, false, List, Option}
 use Rattle.isa_model.specs.Effect.{Write}
 use Rattle.hart_model.specs.declared.tag.Tag.{Tag}
 use Rattle.hart_model.specs.declared.tag.Tag.TheVariants.{Of}
-use Rattle.hart_model.specs.Cells.{Bases}
 use Rattle.hart_model.specs.Taint.{machine_tag}
 use Rattle.hart_model.specs.Context.{ContextState}
 use Rattle.hart_model.specs.HartState.{HartState}
 use Rattle.hart_model.specs.MachineStep.{OperandCells, operand_tag}
 use Rattle.hart_model.specs.Writes.{CellWrite, HartAndProbes, cell_writes, after_writes}
-use Rattle.hart_state.specs.declared.flow.LatchWrite.{LatchWrite}
 use Rattle.hart_state.specs.declared.writer.OperandCells.{OperandCells as CodeCells}
 use Rattle.hart_state.specs.declared.writer.Writer.{Writer}
 use Rattle.hart_state.specs.declared.writer.Writer.TheVariants.{User, Machine}
 use Rattle.hart_state.specs.Reached.{reached_bases}
-use Rattle.hart_state.specs.View.{write_of}
 
 abbrev pub operand_cells_of : CodeCells → OperandCells
 operand_cells_of o = record { rs1 = o.rs1; rs2 = o.rs2; word = o.word; old_csr = o.old_csr }

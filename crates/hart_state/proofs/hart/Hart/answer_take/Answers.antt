@@ -1,5 +1,5 @@
 -- The writes that the load has begun with, and then those of what it loads.
-use Rattle.std.proofs.Common.{◌≡◌, ◌+◌, ◌≤◌, List, ◌++◌, length, map, length-append, append_assoc, ap, sym, subst, ◌∙◌, arith}
+use Rattle.std.proofs.Common.{◌≡◌, ◌+◌, List, ◌++◌, length, map, length-append, append_assoc, ap, subst, ◌∙◌, arith}
 use Rattle.hart_model.specs.declared.probe.Probe.{Probe as LogEntry}
 use Rattle.hart_model.specs.HartState.{HartState}
 use Rattle.hart_model.specs.Writes.{HartAndProbes, after_writes}

@@ -1,5 +1,5 @@
 -- No step in user mode asks.
-use Rattle.std.proofs.Common.{◌≡◌, None, ap, subst, ◌∙◌}
+use Rattle.std.proofs.Common.{None, ap, subst, ◌∙◌}
 use Rattle.hart_model.specs.declared.tag.Mode.{Mode}
 use Rattle.hart_model.specs.HartState.{HartState}
 use Rattle.hart_model.specs.HartStep.{step_by_mode}
