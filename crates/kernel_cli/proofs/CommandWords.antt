@@ -1,10 +1,10 @@
 -- The command of words is the one that they spell.
-use Rattle.std.proofs.Common.{◌≡◌, ℕ, List, [], ◌∷◌, Option, Some, None, Bool, true, false, refl, ap, codes, cond}
+use Rattle.std.proofs.Common.{◌≡◌, ℕ, List, [], ◌∷◌, Some, None, Bool, true, false, refl, ap, codes, cond}
 use Rattle.std.specs.Str.{bytes_eq}
 use Rattle.std.proofs.lemmas.Slice.Eq.{bytes_eq-Decides}
 use Rattle.kernel_cli.specs.declared.command.Command.{Command}
 use Rattle.kernel_cli.specs.declared.command.Command.TheVariants.{Alone, Asm}
-use Rattle.kernel_cli.specs.Commands.{SpellsCommand, command_named, command_of}
+use Rattle.kernel_cli.specs.Commands.{SpellsCommand, command_of}
 
 -- a word that its test says is this one
 is_this : (word this : List ℕ) → bytes_eq word this ≡ true → word ∷ [] ≡ this ∷ []

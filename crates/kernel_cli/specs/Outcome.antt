@@ -1,5 +1,5 @@
 -- An answer of the code, as the answer that it is.
-use Rattle.std.specs.Prelude.{◌≡◌, ℕ, List}
+use Rattle.std.specs.Prelude.{◌≡◌}
 use Rattle.kernel_cli.specs.declared.answer.Made.{Made}
 use Rattle.kernel_cli.specs.declared.answer.Outcome.{Outcome}
 use Rattle.kernel_cli.specs.declared.answer.Outcome.TheVariants as outcomes
