@@ -147,7 +147,6 @@ impl Alone {
         ensures count { result ≡ self.now.count }
         ensures within { result ≤ self.now.task.fuel }
     {
-        let _ = &self.machine;
         self.count
     }
 

@@ -81,6 +81,24 @@ fn quanta(alloc: Global, tokens: &[&[u8]]) -> Result<Vec<u16>, BundleKind>
     Ok(found)
 }
 
+/// The plan of the tokens of its numbers.
+fn plan_of(
+    alloc: Global,
+    hart: &[u8],
+    tail: &[u8],
+    quanta_tokens: &[&[u8]],
+) -> Result<PlanText, BundleKind>
+    ensures value { Says result (plan_of hart.now tail.now (Some (texts quanta_tokens.now))) }
+{
+    let hart = number_in(0, 7, hart)?;
+    let tail = number_in(1, 4096, tail)? as u16;
+    let quanta = Quanta::new(quanta(alloc, quanta_tokens)?);
+    Ok(PlanText {
+        hart,
+        plan: Plan { quanta, tail },
+    })
+}
+
 /// The plan of a hart.
 pub(crate) fn plan_operands(alloc: Global, tokens: &[&[u8]]) -> Result<PlanText, BundleKind>
     ensures value { Says result (plan_operands (texts tokens.now)) }
@@ -91,14 +109,10 @@ pub(crate) fn plan_operands(alloc: Global, tokens: &[&[u8]]) -> Result<PlanText,
     if *tail_word != b"tail".as_slice() {
         return Err(BundleKind::Operands);
     }
-    let quanta_tokens = quanta_tokens(rest).ok_or(BundleKind::Operands)?;
-    let hart = number_in(0, 7, hart)?;
-    let tail = number_in(1, 4096, tail)? as u16;
-    let quanta = Quanta::new(quanta(alloc, quanta_tokens)?);
-    Ok(PlanText {
-        hart,
-        plan: Plan { quanta, tail },
-    })
+    match quanta_tokens(rest) {
+        Some(quanta_tokens) => plan_of(alloc, hart, tail, quanta_tokens),
+        None => Err(BundleKind::Operands),
+    }
 }
 
 /// The tokens after `quanta`, or none where there is no token.

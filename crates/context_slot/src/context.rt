@@ -164,7 +164,8 @@ impl Context {
     /// Makes this the cell of a data word, by its index from 0.
     pub fn set_data_word(&mut self, i: u32, cell: Cell)
         requires word { i < length self.old.body.data_words }
-        ensures context { self.new ≡ record self.old { body = record self.old.body { data_words = set self.old.body.data_words i cell } } }
+        ensures context { self.new ≡
+            record self.old { body = record self.old.body { data_words = set self.old.body.data_words i cell } } }
     {
         self.body.set_data_word(i, cell);
     }
@@ -181,7 +182,8 @@ impl Context {
     /// Goes on to the next word of the tape, where one is left.
     pub fn advance_tape(&mut self)
         requires left { self.old.body.tape_at < length self.old.body.tape }
-        ensures context { self.new ≡ record self.old { body = record self.old.body { tape_at = self.old.body.tape_at + 1 } } }
+        ensures context { self.new ≡
+            record self.old { body = record self.old.body { tape_at = self.old.body.tape_at + 1 } } }
     {
         self.body.advance_tape();
     }
@@ -189,7 +191,8 @@ impl Context {
     /// Appends a word to the output, where there is room. Takes no memory.
     pub fn push_output(&mut self, word: u32)
         requires room { length self.old.body.output < self.old.body.out_max }
-        ensures context { self.new ≡ record self.old { body = record self.old.body { output = self.old.body.output ++ word ∷ [] } } }
+        ensures context { self.new ≡
+            record self.old { body = record self.old.body { output = self.old.body.output ++ word ∷ [] } } }
     {
         self.body.push_output(word);
     }
@@ -197,7 +200,8 @@ impl Context {
     /// Counts one instruction more.
     pub fn raise_count(&mut self)
         requires fits { self.old.body.count + 1 < 2 ^ 32 }
-        ensures context { self.new ≡ record self.old { body = record self.old.body { count = self.old.body.count + 1 } } }
+        ensures context { self.new ≡
+            record self.old { body = record self.old.body { count = self.old.body.count + 1 } } }
     {
         self.body.raise_count();
     }

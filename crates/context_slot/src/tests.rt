@@ -1,6 +1,5 @@
 ghost use Rattle.std.specs.Prelude.{◌≡◌, ◌^◌, ◌<◌, length, IfOk};
 ghost use Rattle.isa_model.specs.TaskPlaces.{IsValidTask};
-ghost use Rattle.hart_model.specs.Context.{fresh_body, fresh_words, admit_of};
 
 use crate::{Body, Cell, Context, End, Tag, Task, Words, slot_words};
 use std::alloc::{AllocError, Global};

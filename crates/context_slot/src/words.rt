@@ -1,6 +1,6 @@
 //! The words of a slot.
 
-ghost use Rattle.std.specs.Prelude.{◌≡◌, ◌<◌, set, get_or, length, replicate, IfOk};
+ghost use Rattle.std.specs.Prelude.{◌≡◌, ◌<◌, set, get_or, length, IfOk};
 ghost use Rattle.hart_model.specs.Cells.{blank};
 ghost use Rattle.hart_model.specs.Context.{slot_len, fresh_words};
 ghost use Rattle.context_slot.specs.Fresh.{HasBlankRegisters};

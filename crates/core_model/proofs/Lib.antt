@@ -1,4 +1,9 @@
 mod TryBoard
 mod TryKernelWords
 mod TryRun
+mod TryCore
+mod TryOrders
+mod TryExplained
+mod TryLowEquivalence
+mod TryInvariant
 mod Runs

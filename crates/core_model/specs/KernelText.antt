@@ -12,6 +12,7 @@ use Rattle.hart_model.specs.Cells.{zero_address}
 use Rattle.hart_model.specs.declared.port.Port.{Port}
 use Rattle.hart_model.specs.declared.port.Port.TheVariants as ports
 use Rattle.hart_model.specs.Ports.{port_address}
+use Rattle.hart_model.specs.Context.{pc_word, bound_word}
 use Rattle.hart_model.specs.Csrs.{mscratch, mepc, mcause, pmpaddr0}
 
 -- the places of the text that a jump or a branch may name
@@ -78,17 +79,19 @@ abbrev pub saved : ℕ → ℕ
 saved register = 4 * register
 
 abbrev pub saved_pc : ℕ
-saved_pc = 0
+saved_pc = 4 * pc_word
 
 abbrev pub saved_bound : ℕ → ℕ
-saved_bound i = 4 * (32 + i)
+saved_bound i = 4 * bound_word i
 
+-- a register of the protection, and a device port's address
 abbrev pub pmpaddr : ℕ → ℕ
 pmpaddr i = pmpaddr0 + i
 
 abbrev pub port : Port → ℕ
 port which = port_address which
 
+-- so many numbers from one on
 abbrev pub numbers_from : ℕ → ℕ → List ℕ
 numbers_from first zero = []
 numbers_from first (suc more) = first ∷ numbers_from (first + 1) more
@@ -180,6 +183,7 @@ service_lines =
     ∷ jal x0 Finish
     ∷ []
 
+-- the services: yield, exit, out and in
 abbrev pub yield_lines : List Line
 yield_lines =
     At DoYield
@@ -247,6 +251,7 @@ finish_lines =
     ∷ jal x0 Take
     ∷ []
 
+-- a task that goes on later is given back as it is
 abbrev pub ready_lines : List Line
 ready_lines =
     At Ready
@@ -272,7 +277,7 @@ take_lines =
     ∷ csrrw x0 mepc x6
     ∷ []
 
--- between the save part and the restore part
+-- all of this stands between the save part and the restore part
 abbrev pub middle_lines : List Line
 middle_lines =
     cause_lines
@@ -302,6 +307,7 @@ last_lines =
     ∷ jal x0 Idle
     ∷ []
 
+-- the whole text
 abbrev pub kernel_lines : List Line
 kernel_lines = save_lines ++ middle_lines ++ restore_lines ++ last_lines
 

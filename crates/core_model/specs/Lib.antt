@@ -6,3 +6,8 @@ pub mod KernelText
 pub mod KernelWords
 pub mod Limits
 pub mod Loaded
+pub mod Core
+pub mod Orders
+pub mod Explained
+pub mod LowEquivalence
+pub mod Invariant

@@ -1,12 +1,27 @@
 -- The register numbers of an instruction that the table has for a word are below 32, whatever the word.
 use Rattle.std.proofs.Common.{◌≡◌, ℕ, ◌<◌, ◌==◌, Bool, true, false, List, [], ◌∷◌, Some, option_map, option_and_then, find, if◌then◌else◌, subst, arith}
 use Rattle.isa_model.specs.declared.instr.Instr.{Instr}
+use Rattle.isa_model.specs.declared.instr.Instr.TheVariants.{Lui, Auipc, Jal, Jalr, Load, AluImm, AluReg, Csr, CsrImm}
 use Rattle.isa_model.specs.Bits.{bits}
 use Rattle.isa_model.specs.InstrTable.{Row, is_fit, groups, instr_in, instr_of}
 use Rattle.isa_model.specs.Alone.{rs1_of, rs2_of}
 
--- an instruction whose operands are registers
+-- the number of rd, and 0 for a form without it
+abbrev pub rd_of : Instr → ℕ
+rd_of (Lui rd imm20) = rd
+rd_of (Auipc rd imm20) = rd
+rd_of (Jal rd off) = rd
+rd_of (Jalr rd rs1 imm) = rd
+rd_of (Load kind rd rs1 imm) = rd
+rd_of (AluImm op rd rs1 imm) = rd
+rd_of (AluReg op rd rs1 rs2) = rd
+rd_of (Csr op rd rs1 csr) = rd
+rd_of (CsrImm op rd uimm csr) = rd
+rd_of instr = 0
+
+-- an instruction whose register numbers are below 32
 pub record HasRegisters (instr : Instr) : Type 0 where
+  pub rd : rd_of instr < 32
   pub rs1 : rs1_of instr < 32
   pub rs2 : rs2_of instr < 32
 
@@ -31,8 +46,8 @@ rows_have (row ∷ rows) word instr have found = go (is_fit word row) (rows_have
     go true later here = let is : row.means word ≡ instr = cc here in subst (λ (i : Instr). HasRegisters i) is have.0
     go false later there = later there
 
-has : (instr : Instr) → rs1_of instr < 32 → rs2_of instr < 32 → HasRegisters instr
-has instr one two = record { rs1 = one; rs2 = two }
+has : (instr : Instr) → rd_of instr < 32 → rs1_of instr < 32 → rs2_of instr < 32 → HasRegisters instr
+has instr rd one two = record { rd = rd; rs1 = one; rs2 = two }
 
 groups_have : (word : ℕ) → GroupsHave groups word
 groups_have word = grind (arith, field_below_32, has)

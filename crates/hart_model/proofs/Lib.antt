@@ -6,7 +6,11 @@ pub mod DecodedRegisters
 pub mod UserEffects
 pub mod EffectShapes
 pub mod UserWrites
+pub mod PlacesHaveLatches
 pub mod UserStepIsAlone
+pub mod UserWritesOwn
+pub mod UserStepWrites
+pub mod WedgesExactly
 mod TryCsrs
 mod TryPmp
 mod SmallTask
@@ -16,3 +20,4 @@ mod TryHartState
 mod TryUserStep
 mod TryMachineStep
 mod TryHartStep
+mod TryUserLaws

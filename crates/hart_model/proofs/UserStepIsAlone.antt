@@ -56,7 +56,7 @@ word_value h c T at held task =
     (λ valid slot inside. value_of_word h c at held valid slot inside)
 
 -- the values of registers and data words, where the lists have them
-latch_values : (h : HartState) (c : ContextState) (T : Task) (v : Latch → ℕ) → h.held ≡ Some c → task_of c.body ≡ T → IsValidTask T → c.slot < 8
+pub latch_values : (h : HartState) (c : ContextState) (T : Task) (v : Latch → ℕ) → h.held ≡ Some c → task_of c.body ≡ T → IsValidTask T → c.slot < 8
     → ListsHave T h.regs c.body.data_words v → (l : Latch) → IsTaskLatch T l → latch_value h l ≡ v l
 latch_values h c T v held task valid slot lists (latches.Reg r) inside = value_of_register h r ∙ lists.in_regs r inside
 latch_values h c T v held task valid slot lists (latches.Mem at) inside = word_value h c T at held task valid slot inside ∙ lists.in_words at inside
@@ -85,7 +85,7 @@ module _ (s : AloneState) (h : HartState) (c : ContextState) (valid : IsValidTas
   })
 
   -- the lists of cells have the values of the run alone
-  lists : ListsHave T h.regs c.body.data_words s.value
+  pub lists : ListsHave T h.regs c.body.data_words s.value
   lists = record {
     in_regs = λ r low. sym (value_of_register h r) ∙ at.values (latches.Reg r) low;
     in_words = λ a inside. sym (value_of_word h c a at.held valid at.slot inside) ∙ at.values (latches.Mem a) inside;
@@ -94,14 +94,14 @@ module _ (s : AloneState) (h : HartState) (c : ContextState) (valid : IsValidTas
   }
 
   -- the hart after the writes, with its entries
-  abbrev wrote : Effect → HartAndProbes
+  abbrev pub wrote : Effect → HartAndProbes
   wrote f = after_writes (cell_writes (bases_of (Some c)) (λ (w : Write). user_tag c.body.task_no c.body.count w.to) f.writes) h
 
-  abbrev after_wrote : Effect → Next → StepResult
+  abbrev pub after_wrote : Effect → Next → StepResult
   after_wrote f next = after_user_writes (record { hart = with_next_count (wrote f).hart; probes = (wrote f).probes }) next
 
   -- the step is the one instruction by the effect of the run alone
-  step_is : user_step h ≡ after_wrote (e) (e).next
+  pub step_is : user_step h ≡ after_wrote (e) (e).next
   unfolding user_step
   step_is =
       ap (λ (o : Option ℕ). by_interrupt h o) none

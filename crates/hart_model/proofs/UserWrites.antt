@@ -22,14 +22,14 @@ use Rattle.hart_model.specs.UserLaws.{IsTaskLatch}
 use Rattle.hart_model.proofs.EffectShapes.{IsRunWrite, IsPortWrite, AllTo}
 
 -- the place of a data word: its address is none of the hart's own words
-index_past : (base len at : ℕ) → base + 4 * len ≤ at → index_in base len at ≡ None
+pub index_past : (base len at : ℕ) → base + 4 * len ≤ at → index_in base len at ≡ None
 index_past base len at h = go (nat_le base at) (nat_lt at (base + 4 * len)) (le-ltb at (base + 4 * len) h)
   where
     go : (low high : Bool) → high ≡ false → (if low && high && ((at - base) % 4 == 0) then Some ((at - base) / 4) else None) ≡ None
     go true high e = rw e refl
     go false high e = refl
 
-index_here : (base len at : ℕ) → base ≤ at → at < base + 4 * len → (at - base) % 4 ≡ 0 → index_in base len at ≡ Some ((at - base) / 4)
+pub index_here : (base len at : ℕ) → base ≤ at → at < base + 4 * len → (at - base) % 4 ≡ 0 → index_in base len at ≡ Some ((at - base) / 4)
 index_here base len at low high even =
     let one = le-leb base at low in
     let two = lt-ltb at (base + 4 * len) high in
@@ -39,12 +39,12 @@ abbrev pub data_index : Task → ℕ → ℕ
 data_index T at = (at - T.data_at) / 4
 
 -- the facts of the address of a data word
-record IsDataAt (T : Task) (at : ℕ) : Type 0 where
-  low : T.data_at ≤ at
-  high : at < T.data_at + 4 * T.data_len
-  even : at % 4 ≡ 0
+pub record IsDataAt (T : Task) (at : ℕ) : Type 0 where
+  pub low : T.data_at ≤ at
+  pub high : at < T.data_at + 4 * T.data_len
+  pub even : at % 4 ≡ 0
 
-data_at : (T : Task) (at : ℕ) → IsTaskLatch T (latches.Mem at) → IsDataAt T at
+pub data_at : (T : Task) (at : ℕ) → IsTaskLatch T (latches.Mem at) → IsDataAt T at
 data_at T at inside =
     let parts = and_parts (nat_le T.data_at at) (nat_lt at (T.data_at + 4 * T.data_len)) inside.0 in
     record { low = leb-true _ _ parts.0; high = ltb-true _ _ parts.1; even = inside.1 }
@@ -144,10 +144,10 @@ pub record Wrote (T : Task) (h : HartState) (c : ContextState) (g : HartState) (
   pub lists : ListsHave T g.regs context.body.data_words v
 
 -- a write and where it went
-record WroteOne (T : Task) (b : Bases) (to : Latch) (x : Cell) (h : HartState) (c : ContextState) (v : Latch → ℕ) : Type 0 where
-  place : Place
-  is_place : place_of b to ≡ Some place
-  wrote : Wrote T h c (hart_with_cell h place x) (with_value to x.value v)
+pub record WroteOne (T : Task) (b : Bases) (to : Latch) (x : Cell) (h : HartState) (c : ContextState) (v : Latch → ℕ) : Type 0 where
+  pub place : Place
+  pub is_place : place_of b to ≡ Some place
+  pub wrote : Wrote T h c (hart_with_cell h place x) (with_value to x.value v)
 
 module _ (T : Task) (b : Bases) (valid : IsValidTask T)
     (data_place : (at : ℕ) → IsTaskLatch T (latches.Mem at) → place_of b (latches.Mem at) ≡ Some (places.DataWord (data_index T at))) where
@@ -174,7 +174,7 @@ module _ (T : Task) (b : Bases) (valid : IsValidTask T)
   stays : (h : HartState) (c : ContextState) (g : HartState) → h.held ≡ Some c → g.held ≡ h.held → g.csrs ≡ h.csrs → g.zero_word ≡ h.zero_word → g.pc ≡ h.pc → IsLater h c g c
   stays h c g held same csrs zero_word pc = record { holds = same ∙ held; rest = refl; csrs = csrs; zero_word = zero_word; pc = pc }
 
-  write_one : (to : Latch) (x : Cell) (h : HartState) (c : ContextState) (v : Latch → ℕ) → IsRunWrite T to → h.held ≡ Some c
+  pub write_one : (to : Latch) (x : Cell) (h : HartState) (c : ContextState) (v : Latch → ℕ) → IsRunWrite T to → h.held ≡ Some c
       → ListsHave T h.regs c.body.data_words v → WroteOne T b to x h c v
   write_one (latches.Reg r) x h c v some held lists = record {
     place = places.Reg r;
@@ -183,7 +183,7 @@ module _ (T : Task) (b : Bases) (valid : IsValidTask T)
       context = c;
       later = stays h c (hart_with_cell h (places.Reg r) x) held refl refl refl refl;
       lists = record {
-        in_regs = λ q low. reg_after_set h.regs r q x lists.how_many_regs low some ∙ ap (λ (n : ℕ). if r == q then x.value else n) (lists.in_regs q low);
+        in_regs = λ q low. reg_after_set h.regs r q x lists.how_many_regs low some.0 ∙ ap (λ (n : ℕ). if r == q then x.value else n) (lists.in_regs q low);
         in_words = lists.in_words;
         how_many_regs = length-set h.regs r x ∙ lists.how_many_regs;
         how_many_words = lists.how_many_words;

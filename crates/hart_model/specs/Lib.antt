@@ -14,5 +14,7 @@ pub mod StepResult
 pub mod UserStep
 pub mod MachineStep
 pub mod HartStep
+pub mod PlaceLaws
 pub mod UserLaws
+pub mod Wedges
 pub mod Laws

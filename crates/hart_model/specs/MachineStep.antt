@@ -1,5 +1,6 @@
 -- A step of a hart in machine mode: one instruction of the kernel's code. No interrupt is taken. Where the instruction would raise an
--- exception, and in the other cases below, the hart is wedged (this project's own).
+-- exception, which by the privileged manual would trap to mtvec, and in the other cases below, the hart is wedged: it stays as it is
+-- for good (this project's own). `Wedges` lists these cases.
 use Rattle.std.specs.Prelude.{ℕ, ◌+◌, ◌-◌, ◌/◌, Bool, false, List, [], ◌∷◌, ◌++◌, Option, Some, None, option_map, is_none, slice_get, nat_le, if◌then◌else◌}
 use Rattle.isa_model.specs.declared.instr.Instr.{Instr}
 use Rattle.isa_model.specs.declared.instr.Instr.TheVariants.{Jalr, Load, Store, Mret, Csr, CsrImm}
@@ -50,6 +51,7 @@ pub data Target : Type 0 where
   AtPort : (port : Port) → Target
   Nowhere : Target
 
+-- the target where no word of a place stands
 abbrev pub port_target : Option Port → Target
 port_target None = Nowhere
 port_target (Some port) = AtPort port
@@ -73,6 +75,7 @@ pub data Reach : Type 0 where
 abbrev pub finds_nothing : Reach
 finds_nothing = Finds None blank Nothing
 
+-- a load from a port and a store to one, by what the port answers
 abbrev pub load_by_port : PortAnswer → Reach
 load_by_port (Passes cell side) = Finds (Some cell) blank side
 load_by_port (AsksQueue call) = NeedsQueue call None
@@ -106,6 +109,7 @@ abbrev pub enters_nothing : Mode → Option ContextState → Bool
 enters_nothing User held = is_none held
 enters_nothing Machine held = false
 
+-- the cells of the register operands
 abbrev pub rs1_cell : HartState → Instr → Cell
 rs1_cell h instr = hart_cell h (Reg (rs1_of instr))
 
@@ -132,6 +136,7 @@ pub record OperandCells : Type 0 where
 abbrev pub operand_cells : HartState → Instr → Option Cell → Cell → OperandCells
 operand_cells h instr word old_csr = record { rs1 = rs1_cell h instr; rs2 = rs2_cell h instr; word = word; old_csr = old_csr }
 
+-- their values, by which the row of the effect table goes, and their tags
 abbrev pub operand_values : OperandCells → Operands
 operand_values o = record { rs1 = o.rs1.value; rs2 = o.rs2.value; word = option_map (λ cell. cell.value) o.word; old_csr = o.old_csr.value }
 
@@ -145,6 +150,7 @@ operand_tag o Rs2 = o.rs2.tag
 operand_tag o Word = tag_of_word o.word
 operand_tag o OldCsr = o.old_csr.tag
 
+-- the effect of an instruction, by its row
 abbrev pub machine_effect : HartState → Instr → OperandCells → Effect
 machine_effect h instr o = effect_of instr h.pc (operand_values o)
 
@@ -164,6 +170,7 @@ held_after_side AdvancesTape c = record c { body = record c.body { tape_at = c.b
 held_after_side (Ends end) c = record c { end = Some end }
 held_after_side side c = c
 
+-- the hart after the side effect of a port
 abbrev pub after_side : SideEffect → HartState → HartState
 after_side ClearsTimer h = record h { csrs = record h.csrs { is_timer_pending = false } }
 after_side side h = record h { held = option_map (held_after_side side) h.held }
@@ -172,6 +179,7 @@ after_side side h = record h { held = option_map (held_after_side side) h.held }
 abbrev pub after_machine_writes : SideEffect → ℕ → HartAndProbes → StepResult
 after_machine_writes side pc a = Steps (record (after_side side a.hart) { pc = pc }) a.probes Ran
 
+-- an effect that goes on, where its CSR may be written
 abbrev pub by_csrs : HartState → OperandCells → SideEffect → Effect → ℕ → Option CsrFile → StepResult
 by_csrs h o side e pc None = Wedged
 by_csrs h o side e pc (Some csrs) = after_machine_writes side pc (after_writes (machine_writes h o e) (record h { csrs = csrs }))
@@ -180,6 +188,7 @@ by_csrs h o side e pc (Some csrs) = after_machine_writes side pc (after_writes (
 abbrev pub after_mret : HartState → StepResult
 after_mret h = Steps (record h { csrs = csrs_after_mret h.csrs; pc = h.csrs.mepc }) [] Ran
 
+-- an effect, by what follows it: an exception or a call of the environment wedges
 abbrev pub by_next : HartState → OperandCells → SideEffect → Effect → Next → StepResult
 by_next h o side e (Goes pc) = by_csrs h o side e pc (csrs_after_effect h.csrs o e.csr)
 by_next h o side e (Raises cause) = Wedged
@@ -198,6 +207,7 @@ load_rd instr = 0
 abbrev pub wants : HartState → Instr → QueueCall → OperandCells → StepResult
 wants h instr call o = Wants call (machine_writes h o (machine_effect h instr o)) (load_rd instr) (low_word (h.pc + 4))
 
+-- an instruction, by what it finds
 abbrev pub by_reach : HartState → Instr → Reach → StepResult
 by_reach h instr (Finds word old_csr side) =
     let o = operand_cells h instr word old_csr in after_machine_effect h o side (machine_effect h instr o)
@@ -207,6 +217,7 @@ by_reach h instr Refused = Wedged
 abbrev pub machine_instr_step : HartState → Instr → StepResult
 machine_instr_step h instr = by_reach h instr (reach_of h instr)
 
+-- the word at the pc, if there is one, and its instruction, if it is one
 abbrev pub by_instr : HartState → Option Instr → StepResult
 by_instr h None = Wedged
 by_instr h (Some instr) = machine_instr_step h instr

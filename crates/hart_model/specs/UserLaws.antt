@@ -1,23 +1,27 @@
--- What an instruction of a hart in user mode has to do with the same instruction of the run alone. It is the contract of a law in
+-- What an instruction of a hart in user mode has to do with the same instruction of the run alone. Each is the contract of a law in
 -- `src/user_laws.rt`.
-use Rattle.std.specs.Prelude.{◌≡◌, ℕ, ◌+◌, ◌%◌, ◌<◌, ◌⊎◌, true, List, length, Option, Some, None, if◌then◌else◌}
+use Rattle.std.specs.Prelude.{◌≡◌, ℕ, ◌+◌, ◌%◌, ◌<◌, ◌⊎◌, true, List, length, Option, Some, None, if◌then◌else◌, All, map}
 use Rattle.isa_model.specs.declared.task.Task.{Task}
 use Rattle.isa_model.specs.declared.latch.Latch.{Latch}
-use Rattle.isa_model.specs.declared.latch.Latch.TheVariants.{Reg, Mem}
+use Rattle.isa_model.specs.declared.latch.Latch.TheVariants.{Reg, Scr, Mem}
 use Rattle.isa_model.specs.declared.instr.Instr.{Instr}
 use Rattle.isa_model.specs.declared.ends.End.TheVariants.{Faulted}
 use Rattle.isa_model.specs.InstrTable.{instr_of}
-use Rattle.isa_model.specs.Effect.{Effect, effect_of}
+use Rattle.isa_model.specs.Effect.{Effect, Write, effect_of}
 use Rattle.isa_model.specs.TaskPlaces.{IsValidTask}
-use Rattle.isa_model.specs.Alone.{AloneState, code_word_at, is_data_address, is_privileged, operands_of, after_instr, after_call}
+use Rattle.isa_model.specs.Alone.{AloneState, code_word_at, is_data_address, is_privileged, operands_of, values_after, after_instr, after_call}
 use Rattle.hart_model.specs.declared.tag.Mode.TheVariants.{User}
 use Rattle.hart_model.specs.declared.calls.Did.TheVariants.{Ran, Trapped}
 use Rattle.hart_model.specs.declared.probe.Probe.{Probe}
+use Rattle.hart_model.specs.declared.tag.Cell.{Cell}
+use Rattle.hart_model.specs.Cells.{blank}
+use Rattle.hart_model.specs.Taint.{user_tag}
+use Rattle.hart_model.specs.Probes.{probe_of}
 use Rattle.hart_model.specs.Pmp.{task_pmp}
 use Rattle.hart_model.specs.Traps.{csrs_after_trap, interrupt_of}
-use Rattle.hart_model.specs.Context.{ContextState, task_of}
-use Rattle.hart_model.specs.HartState.{HartState}
-use Rattle.hart_model.specs.StepResult.{Steps}
+use Rattle.hart_model.specs.Context.{BodyState, ContextState, task_of}
+use Rattle.hart_model.specs.HartState.{HartState, latch_cell}
+use Rattle.hart_model.specs.StepResult.{Steps, hart_after, probes_of}
 use Rattle.hart_model.specs.UserStep.{latch_value, exception, user_effect, user_step, is_fuel_used}
 
 -- the latches by whose values a task's run goes on: its registers and its data words
@@ -77,7 +81,8 @@ pub record TrapsBy (cause : ℕ) (h : HartState) (c : ContextState) : Type 0 whe
   pub zero_word : hart.zero_word ≡ h.zero_word
   pub held : hart.held ≡ Some (record c { body = record c.body { count = c.body.count + 1 } })
 
--- Both fault by this cause, which is one of the exceptions below 8: the run alone ends as faulted at the pc, with no register and no word changed.
+-- Both fault by this cause, which is one of the exceptions below 8: the run alone ends as faulted at the pc, with no register and no
+-- word changed.
 pub record FaultsAlone (T : Task) (s : AloneState) (h : HartState) (c : ContextState) (cause : ℕ) : Type 0 where
   pub traps : TrapsBy cause h c
   pub is_low : cause < 8
@@ -102,3 +107,42 @@ pub record IsInstrAlone (T : Task) (s : AloneState) (h : HartState) (c : Context
 abbrev pub UserStepIsRunAlone : Type 0
 UserStepIsRunAlone = (T : Task) → IsValidTask T → (s : AloneState) (h : HartState) (c : ContextState) →
     IsAtRunAlone T s h c → interrupt_of h.csrs (is_fuel_used h.held) ≡ None → IsInstrAlone T s h c
+
+-- the latches that an instruction of a task may write, but for x0, which keeps its 0
+abbrev pub IsRunLatch : Task → Latch → Type 0
+IsRunLatch T (Reg r) = r < 32
+IsRunLatch T (Mem at) = IsTaskLatch T (Mem at)
+IsRunLatch T Scr = ⊥
+IsRunLatch T latch = Unit {0}
+
+-- the values of the run alone after the writes of its instruction
+abbrev pub written_value : Task → AloneState → Latch → ℕ
+written_value T s l = values_after (alone_effect T s).writes s.value l
+
+-- A latch holds the value of the run alone after the instruction, with the tag of the task's next step and of itself; or the
+-- instruction didn't write it, on the hart or alone.
+abbrev pub IsOwnOrKept : Task → AloneState → HartState → ContextState → HartState → Latch → Type 0
+IsOwnOrKept T s h c g l =
+    (latch_cell g l ≡ Some (record { value = written_value T s l; tag = user_tag c.body.task_no c.body.count l }))
+    ⊎ ((latch_cell g l ≡ latch_cell h l) × (written_value T s l ≡ s.value l))
+
+abbrev pub cell_or_blank : Option Cell → Cell
+cell_or_blank None = blank
+cell_or_blank (Some cell) = cell
+
+-- the entry of a write in user mode, from the cell that stood in the latch before the instruction
+abbrev pub user_entry : HartState → BodyState → Write → Probe
+user_entry h b w =
+    probe_of h.csrs.hart h.pc User w.to (cell_or_blank (latch_cell h w.to)) (record { value = w.value; tag = user_tag b.task_no b.count w.to })
+
+-- What an instruction in user mode writes: the values of the run alone, with their own tags; each write makes one entry, in order.
+pub record WritesOwn (T : Task) (s : AloneState) (h : HartState) (c : ContextState) : Type 0 where
+  pub latches : All (λ w. IsRunLatch T w.to) (alone_effect T s).writes
+  pub values : All (λ w. w.value ≡ written_value T s w.to) (alone_effect T s).writes
+  pub entries : probes_of (user_step h) ≡ map (user_entry h c.body) (alone_effect T s).writes
+  pub cells : (l : Latch) → IsRunLatch T l → IsOwnOrKept T s h c (hart_after h (user_step h)) l
+
+-- Where no interrupt is due, a step in user mode writes its own values alone.
+abbrev pub UserStepWritesOwn : Type 0
+UserStepWritesOwn = (T : Task) → IsValidTask T → (s : AloneState) (h : HartState) (c : ContextState) →
+    IsAtRunAlone T s h c → interrupt_of h.csrs (is_fuel_used h.held) ≡ None → WritesOwn T s h c

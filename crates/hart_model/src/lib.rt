@@ -6,11 +6,13 @@ pub mod access;
 pub mod calls;
 pub mod laws;
 pub mod place;
+pub mod place_laws;
 pub mod port;
 pub mod probe;
 pub mod region;
 pub mod tag;
 pub mod user_laws;
+pub mod wedge_laws;
 pub mod why_laws;
 
 pub use access::Access;

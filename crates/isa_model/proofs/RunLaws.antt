@@ -18,7 +18,7 @@ use Rattle.isa_model.specs.declared.instr.LoadKind.{LoadKind}
 use Rattle.isa_model.specs.declared.instr.StoreKind.{StoreKind}
 use Rattle.std.proofs.lemmas.Bool.{cond_both, eqb-true}
 use Rattle.isa_model.specs.InstrTable.{instr_of}
-use Rattle.isa_model.specs.Effect.{Flow, Constant, Mixed, Rs1, Rs2, to, to_reg, result, port_a, loaded_flow, Next, Goes, Raises, Calls, Returns, Effect, Write, Operands, effect_of, jump, does, ports, load_word, store_word, address}
+use Rattle.isa_model.specs.Effect.{Flow, Constant, Mixed, Rs1, Rs2, to, to_reg, result, port_a, loaded_flow, Next, Goes, Raises, Calls, Returns, GoesAligned, Effect, Write, Operands, effect_of, jump, does, ports, load_word, store_word, address}
 use Rattle.isa_model.specs.Alone.{AloneState, Executed, alone_at, start_of, after_instr, after_fetch, after_decode, after_effect, after_writes, after_call, after_in, after_out, after_end, after_service, after_fault, with_value, values_after, code_word_at, is_privileged, deed_of, rs1_of, if_fuel_used, unless_ended, operands_of}
 use Rattle.isa_model.specs.Control.{control_to, control_of, kind_of, end_kind_of}
 
@@ -43,12 +43,6 @@ module _ (T : Task) (P : AloneState → Type 0) where
 abbrev IsAligned : AloneState → Type 0
 IsAligned s = s.pc % 4 ≡ 0
 
-abbrev GoesAligned : Next → Type 0
-GoesAligned (Goes pc) = pc % 4 ≡ 0
-GoesAligned (Raises cause) = Unit {0}
-GoesAligned Calls = Unit {0}
-GoesAligned Returns = Unit {0}
-
 four_more : (pc : ℕ) → pc % 4 ≡ 0 → low_word (pc + 4) % 4 ≡ 0
 four_more pc h = omega arith
 
@@ -64,7 +58,7 @@ store_aligned : (kind : StoreKind) (value pc at : ℕ) (begun : List Write) (wor
 store_aligned kind value pc at begun None h = tt
 store_aligned kind value pc at begun (Some word) h = four_more pc h
 
-next_aligned : (instr : Instr) (pc : ℕ) (o : Operands) → pc % 4 ≡ 0 → GoesAligned (effect_of instr pc o).next
+pub next_aligned : (instr : Instr) (pc : ℕ) (o : Operands) → pc % 4 ≡ 0 → GoesAligned (effect_of instr pc o).next
 next_aligned (Lui rd imm20) pc o h = four_more pc h
 next_aligned (Auipc rd imm20) pc o h = four_more pc h
 next_aligned (Jal rd off) pc o h = jump_aligned [] (result rd (low_word (pc + 4)) Constant) (low_word (pc + two_complement 32 off))

@@ -1,7 +1,7 @@
 -- What one instruction does: the latches that it writes, in order, each with its value and with what flows into it; the CSR
 -- that it writes; and what follows. One row a form. The behaviour is that of the unprivileged manual (RV32I and Zicsr); which
 -- latches are written, and in which order, is this project's own. Privilege is checked before.
-use Rattle.std.specs.Prelude.{ℕ, ◌+◌, ◌*◌, ◌/◌, ◌%◌, ◌^◌, Bool, true, ◌&&◌, not, List, [], ◌∷◌, ◌++◌, Option, None, Some, ℤ, ◌==◌, if◌then◌else◌}
+use Rattle.std.specs.Prelude.{◌≡◌, ℕ, ◌+◌, ◌*◌, ◌/◌, ◌%◌, ◌^◌, Bool, true, ◌&&◌, not, List, [], ◌∷◌, ◌++◌, Option, None, Some, ℤ, ◌==◌, if◌then◌else◌}
 use Rattle.std.specs.List.{list_any}
 use Rattle.isa_model.specs.declared.instr.Instr.{Instr}
 use Rattle.isa_model.specs.declared.instr.Instr.TheVariants.{Lui, Auipc, Jal, Jalr, Branch, Load, Store, AluImm, AluReg, Fence, Ecall, Ebreak, Mret, Csr, CsrImm}
@@ -38,6 +38,13 @@ pub data Next : Type 0 where
   Raises : (cause : ℕ) → Next
   Calls : Next
   Returns : Next
+
+-- it goes on at a multiple of 4, if it goes on
+abbrev pub GoesAligned : Next → Type 0
+GoesAligned (Goes pc) = pc % 4 ≡ 0
+GoesAligned (Raises cause) = Unit {0}
+GoesAligned Calls = Unit {0}
+GoesAligned Returns = Unit {0}
 
 pub record CsrWrite : Type 0 where
   pub csr : ℕ

@@ -1,6 +1,6 @@
 //! The board.
 
-ghost use Rattle.std.specs.Prelude.{◌≡◌, ◌+◌, ◌<◌, ◌≤◌, ◌↔◌, [], length, Some, IsNone, IsOk, IfOk, IfSome, OnOk, OnErr};
+ghost use Rattle.std.specs.Prelude.{◌≡◌, ◌+◌, ◌<◌, ◌≤◌, ◌↔◌, [], length, IsNone, IsOk, IfOk, IfSome, OnOk, OnErr};
 ghost use Rattle.std.specs.Option.{option_copied};
 ghost use Rattle.core_model.specs.Board.{HasSpareForOut, boot_board, take_of, give_ready_of, give_done_of};
 ghost use Rattle.core_model.specs.Homes.{waiting_home, slot_home, hart_home, ended_home, home_of};
@@ -49,7 +49,13 @@ impl Model for Board {
       spare = vec_capacity b.order - vec_len b.order;
     } };
 
-    ghost invariant = { λ b. HasRoom b.waiting.items b.ready.items b.out.items b.ended.items b.order.items (record {
+    ghost invariant = { λ b. HasRoom (record {
+      waiting = b.waiting.items;
+      ready = b.ready.items;
+      out = b.out.items;
+      ended = b.ended.items;
+      order = b.order.items;
+    }) (record {
       ready = deque_capacity b.ready;
       out = vec_capacity b.out;
       ended = vec_capacity b.ended;
@@ -130,7 +136,7 @@ impl Board {
                 self.out.push_reserved(entry);
                 Some(context)
             }
-            None => None,
+            None => None, // an action all the same
         }
     }
 

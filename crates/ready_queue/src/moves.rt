@@ -1,6 +1,6 @@
 //! How tasks move between the lists of a board.
 
-ghost use Rattle.std.specs.Prelude.{◌≡◌, ◌+◌, ◌<◌, ◌≤◌, ◌++◌, ◌∷◌, [], length, drop, vec_len, vec_capacity, All, Contains, IsSome, IfSome};
+ghost use Rattle.std.specs.Prelude.{◌≡◌, ◌+◌, ◌<◌, ◌++◌, ◌∷◌, [], drop, vec_len, vec_capacity, All, IsSome, IfSome};
 ghost use Rattle.std.specs.VecDeque.{deque_len, deque_capacity};
 ghost use Rattle.hart_model.specs.Context.{done_of, IsScrubbed};
 ghost use Rattle.core_model.specs.Board.{out_without};
