@@ -1,4 +1,3 @@
-pub mod NextAligned
 pub mod BesideWords
 pub mod Following
 pub mod Asking

@@ -3,7 +3,6 @@ pub mod Reached
 pub mod View
 pub mod EffectView
 pub mod WriterView
-pub mod Aligned
 pub mod UserDeed
 pub mod PortView
 pub mod ReachView

@@ -5,7 +5,7 @@ use Rattle.hart_model.specs.HartState.{HartState}
 use Rattle.hart_model.specs.UserStep.{user_effect}
 use Rattle.hart_state.specs.declared.user.UserDeed.{UserDeed}
 use Rattle.hart_state.specs.declared.writer.Writer.TheVariants.{User}
-use Rattle.hart_state.specs.Aligned.{GoesAligned}
+use Rattle.isa_model.specs.Effect.{GoesAligned}
 use Rattle.hart_state.specs.View.{next_of}
 use Rattle.hart_state.specs.EffectView.{effect_of_outcome}
 

@@ -6,7 +6,7 @@ ghost use Rattle.isa_model.specs.Encoding.{IsInstr};
 ghost use Rattle.isa_model.specs.Arithmetic.{csr_result as csr_result_of};
 ghost use Rattle.isa_model.specs.Effect.{Constant, Moved, Rs1, csr_effect as effect_of_csr, csr_flow as csr_flow_of, is_csr_written as is_csr_written_by, is_mscratch as is_mscratch_of, effect_of as effect_of_instr};
 ghost use Rattle.hart_state.specs.View.{flow_of, next_of, optional_csr_write_of, operands_of_values};
-ghost use Rattle.hart_state.specs.Aligned.{GoesAligned};
+ghost use Rattle.isa_model.specs.Effect.{GoesAligned};
 ghost use Rattle.hart_state.specs.EffectView.{effect_of_outcome};
 
 use crate::effect::{Follow, RegisterWrite, Values};

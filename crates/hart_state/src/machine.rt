@@ -5,7 +5,7 @@ ghost use Rattle.isa_model.specs.Encoding.{IsInstr};
 ghost use Rattle.hart_model.specs.declared.probe.Probe.{Probe as LogEntry};
 ghost use Rattle.hart_model.specs.MachineStep.{kernel_word_at, csrs_after_effect, after_side, by_csrs, after_mret, by_next, machine_instr_step as instr_step_of, machine_step as machine_step_of};
 ghost use Rattle.hart_model.specs.StepResult.{did_of, hart_after, probes_of};
-ghost use Rattle.hart_state.specs.Aligned.{GoesAligned};
+ghost use Rattle.isa_model.specs.Effect.{GoesAligned};
 ghost use Rattle.hart_state.specs.View.{optional_csr_write_of, next_of};
 ghost use Rattle.hart_state.specs.EffectView.{effect_of_outcome};
 ghost use Rattle.hart_state.specs.WriterView.{operand_cells_of};

@@ -8,7 +8,7 @@ ghost use Rattle.hart_model.specs.UserStep.{is_fuel_used as is_fuel_used_by, exc
 ghost use Rattle.hart_model.specs.StepResult.{did_of, hart_after, probes_of};
 ghost use Rattle.hart_state.specs.View.{next_of};
 ghost use Rattle.hart_state.specs.EffectView.{effect_of_outcome};
-ghost use Rattle.hart_state.specs.Aligned.{GoesAligned};
+ghost use Rattle.isa_model.specs.Effect.{GoesAligned};
 ghost use Rattle.hart_state.specs.UserDeed.{HasUserDeed, CanCount};
 
 use crate::csr_forms::effect_of;

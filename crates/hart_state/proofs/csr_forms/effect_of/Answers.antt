@@ -1,9 +1,9 @@
 -- It goes on at a multiple of 4, as its definition does.
 use Rattle.std.proofs.Common.{ap, sym, subst}
 use Rattle.isa_model.specs.Effect.{Next, Effect}
-use Rattle.hart_state.specs.Aligned.{GoesAligned}
+use Rattle.isa_model.specs.Effect.{GoesAligned}
 use Rattle.hart_state.specs.View.{operands_of_values}
-use Rattle.hart_state.proofs.NextAligned.{next_aligned}
+use Rattle.isa_model.proofs.RunLaws.{next_aligned}
 use Rattle.hart_state.proofs.csr_forms.effect_of.Goals as goal
 
 pub returns-clause-aligned : goal.returns-clause-aligned
