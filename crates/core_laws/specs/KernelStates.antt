@@ -1,0 +1,156 @@
+-- The parts of a kernel's code, and what is known of a hart at their ends (this project's own).
+use Rattle.std.specs.Prelude.{◌≡◌, ℕ, zero, suc, ◌+◌, ◌*◌, ◌≤◌, ℤ, pos, ◌-ℤ◌, List, [], ◌∷◌, ◌++◌, get_or, replicate, if◌then◌else◌}
+use Rattle.isa_model.specs.declared.instr.Instr.{Instr}
+use Rattle.isa_model.specs.declared.instr.Instr.TheVariants.{Jal, Branch, Fence, Mret}
+use Rattle.isa_model.specs.declared.task.Task.{Task}
+use Rattle.hart_model.specs.Pmp.{bounds_of}
+use Rattle.hart_model.specs.Csrs.{CsrFile}
+use Rattle.hart_model.specs.Context.{ContextState}
+use Rattle.hart_model.specs.HartState.{HartState}
+use Rattle.hart_model.specs.MachineStep.{kernel_address}
+use Rattle.core_model.specs.KernelText.{Label, Idle, Line, At, Does, Branches, Jumps, Word, save_lines, middle_lines, restore_lines}
+use Rattle.core_model.specs.KernelWords.{KernelCodeState, same_label, distance, kernel_code}
+use Rattle.abstract_run.specs.AbstractCell.{AbstractCell, Zero, SlotAddress, PublicAny, PublicNumber, TaskReg, OldSlotWord, AnyTagged, AbstractState}
+use Rattle.abstract_run.specs.Concretization.{Setting, IsSound}
+use Rattle.abstract_run.specs.SymbolicPath.{PathState, StandAt, HasInstrAt, IsAsPathSays}
+use Rattle.abstract_run.specs.Ways.{Leads}
+
+-- the distance to a label of a text, or to the idle loop, which stands so many words after the text's start
+abbrev pub distance_to : List Line → ℕ → ℕ → Label → ℤ
+distance_to text idle at label = if same_label label Idle then pos (4 * idle) -ℤ pos (4 * at) else distance text at label
+
+-- the instructions of lines of a text, which begin after `at` words of it
+abbrev pub instrs_from : List Line → ℕ → ℕ → List Line → List Instr
+instrs_from text idle at [] = []
+instrs_from text idle at (At label ∷ lines) = instrs_from text idle at lines
+instrs_from text idle at (Does instr ∷ lines) = instr ∷ instrs_from text idle (at + 1) lines
+instrs_from text idle at (Branches op rs1 rs2 label ∷ lines) = Branch op rs1 rs2 (distance_to text idle at label) ∷ instrs_from text idle (at + 1) lines
+instrs_from text idle at (Jumps rd label ∷ lines) = Jal rd (distance_to text idle at label) ∷ instrs_from text idle (at + 1) lines
+instrs_from text idle at (Word word ∷ lines) = Fence 0 ∷ instrs_from text idle (at + 1) lines
+
+-- the kernel's own save part and restore part, and what stands between them, with the idle loop so many words after its start
+abbrev pub save_instrs : List Instr
+save_instrs = instrs_from save_lines 0 0 save_lines
+
+abbrev pub middle_instrs : ℕ → List Instr
+middle_instrs idle = instrs_from middle_lines idle 0 middle_lines
+
+abbrev pub restore_instrs : List Instr
+restore_instrs = instrs_from restore_lines 0 0 restore_lines
+
+-- how many words the middle has, and which of them are the gives, the jump after the give of an ended task, and the take
+abbrev pub middle_len : ℕ
+middle_len = 113
+
+abbrev pub finish_index : ℕ
+finish_index = 65
+
+abbrev pub give_done_index : ℕ
+give_done_index = 97
+
+abbrev pub give_ready_index : ℕ
+give_ready_index = 99
+
+abbrev pub take_index : ℕ
+take_index = 100
+
+-- a kernel's code, and how many words its save part and its restore part have
+pub record KernelParts : Type 0 where
+  pub code : KernelCodeState
+  pub save : ℕ
+  pub restore : ℕ
+
+-- the kernel of this project
+abbrev pub emitted_parts : KernelParts
+emitted_parts = record { code = kernel_code; save = 101; restore = 62 }
+
+-- the addresses of the middle, the restore part, the return to the task and the idle loop
+abbrev pub middle_at : KernelParts → ℕ
+middle_at k = kernel_address + 4 * k.save
+
+abbrev pub restore_at : KernelParts → ℕ
+restore_at k = middle_at k + 4 * middle_len
+
+abbrev pub mret_at : KernelParts → ℕ
+mret_at k = restore_at k + 4 * k.restore
+
+abbrev pub idle_at : KernelParts → ℕ
+idle_at k = mret_at k + 4
+
+-- some abstract cells by their numbers, so many from one on
+abbrev pub numbered : (ℕ → AbstractCell) → ℕ → ℕ → List AbstractCell
+numbered cell first zero = []
+numbered cell first (suc more) = cell first ∷ numbered cell (first + 1) more
+
+abbrev pub bound_cells : Task → List AbstractCell
+bound_cells T =
+    PublicNumber (get_or (bounds_of T) 0 0) ∷ PublicNumber (get_or (bounds_of T) 1 0)
+    ∷ PublicNumber (get_or (bounds_of T) 2 0) ∷ PublicNumber (get_or (bounds_of T) 3 0) ∷ []
+
+-- registers that are public, x5 being the slot's address
+abbrev pub kernel_regs : List AbstractCell
+kernel_regs = replicate 5 PublicAny ++ SlotAddress ∷ replicate 26 PublicAny
+
+-- Of a trapped task: the registers are its own, the other latches have anything of it or of before, and so have the slot's words.
+abbrev pub trapped_cells : Setting → AbstractState
+trapped_cells s = record {
+  regs = AnyTagged ∷ numbered TaskReg 1 31;
+  port_a = AnyTagged;
+  port_b = AnyTagged;
+  res = AnyTagged;
+  load = AnyTagged;
+  store = AnyTagged;
+  scr = SlotAddress;
+  zero = Zero;
+  slot = PublicAny ∷ numbered OldSlotWord 1 31 ++ bound_cells s.task;
+  data_words = [];
+}
+
+-- Of a saved task: its registers stand in the slot, and nothing of it is in a latch. The word of the pc is as given.
+abbrev pub saved_cells : Setting → AbstractCell → AbstractState
+saved_cells s pc = record {
+  regs = kernel_regs;
+  port_a = PublicAny;
+  port_b = PublicAny;
+  res = PublicAny;
+  load = PublicAny;
+  store = PublicAny;
+  scr = SlotAddress;
+  zero = Zero;
+  slot = pc ∷ numbered TaskReg 1 31 ++ bound_cells s.task;
+  data_words = [];
+}
+
+-- Of a restored task: its registers are in the latches of their names, and stand in the slot as before.
+abbrev pub restored_cells : Setting → AbstractState
+restored_cells s = record (saved_cells s PublicAny) { regs = PublicAny ∷ numbered TaskReg 1 31 }
+
+abbrev pub at_start : AbstractState → CsrFile → ContextState → PathState
+at_start cells csrs held = record { cells = cells; index = 0; csrs = csrs; held = held }
+
+-- Where the words of a code stand that its parts don't choose.
+pub record IsLinked (k : KernelParts) : Type 0 where
+  pub save_limit : k.save ≤ 300
+  pub restore_limit : k.restore ≤ 300
+  pub take : k.code.take ≡ middle_at k + 4 * take_index
+  pub middle : StandAt k.code.words (middle_at k) (middle_instrs (middle_len + k.restore + 1))
+  pub mret : HasInstrAt k.code.words (mret_at k) Mret
+  pub idle : HasInstrAt k.code.words (idle_at k) (Jal 0 (pos 0))
+
+-- The save part leads from a trapped task to a saved one, by one step for each of its words.
+abbrev pub SavePartSaves : KernelParts → Type 0
+SavePartSaves k = (s : Setting) (number : ℕ) (csrs : CsrFile) (held : ContextState) (h : HartState) → IsSound s →
+    IsAsPathSays s number kernel_address (at_start (trapped_cells s) csrs held) h →
+    Leads s.tasks k.code.words number k.save (IsAsPathSays s number (middle_at k) (at_start (saved_cells s PublicAny) csrs held)) h
+
+-- The restore part leads from a saved task to a restored one, by one step for each of its words.
+abbrev pub RestorePartRestores : KernelParts → Type 0
+RestorePartRestores k = (s : Setting) (number : ℕ) (csrs : CsrFile) (held : ContextState) (h : HartState) → IsSound s →
+    IsAsPathSays s number (restore_at k) (at_start (saved_cells s PublicAny) csrs held) h →
+    Leads s.tasks k.code.words number k.restore (IsAsPathSays s number (mret_at k) (at_start (restored_cells s) csrs held)) h
+
+-- A kernel of which all that follows is proved.
+pub record IsKernel (k : KernelParts) : Type 0 where
+  pub linked : IsLinked k
+  pub saves : SavePartSaves k
+  pub restores : RestorePartRestores k
