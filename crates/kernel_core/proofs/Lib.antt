@@ -1,0 +1,7 @@
+pub mod Wanted
+pub mod RunFacts
+pub mod RunAfter
+pub mod ToldMore
+pub mod Counting
+pub mod Booted
+pub mod Reported

@@ -1,0 +1,109 @@
+-- A core that is told one event more.
+use Rattle.std.proofs.Common.{◌≡◌, ℕ, List, [], ◌∷◌, ◌++◌, slice_get, Option, Some, None, refl, sym, ap, subst, ◌∙◌, append-nil}
+use Rattle.isa_model.specs.declared.ends.End.{End}
+use Rattle.hart_model.specs.declared.calls.QueueCall.TheVariants.{Take, GiveReady, GiveDone}
+use Rattle.hart_model.specs.declared.probe.Probe.{Probe}
+use Rattle.hart_model.specs.Context.{ContextState}
+use Rattle.hart_model.specs.HartState.{HartState}
+use Rattle.hart_model.specs.Writes.{CellWrite}
+use Rattle.hart_model.specs.StepResult.{StepResult, Steps, Wants, Wedged}
+use Rattle.hart_model.specs.HartStep.{hart_step}
+use Rattle.core_model.specs.declared.event.Event.{Event}
+use Rattle.core_model.specs.declared.event.Event.TheVariants.{Go, Tick}
+use Rattle.core_model.specs.Board.{BoardState}
+use Rattle.core_model.specs.Core.{CoreState, CoreAndAction, event_result, after_event, after_go, after_step, after_call, after_give_done, after_tick, without_action}
+use Rattle.core_laws.proofs.Events.{core-more}
+use Rattle.core_laws.proofs.FromHarts.{stays-sound, outputs-stay, one-home-each}
+use Rattle.core_laws.proofs.Proved.{kernel-harts}
+use Rattle.probe_log.specs.Counts.{StandFor}
+use Rattle.kernel_core.specs.Running.{IsAfterEvent, core_of_run, event_on, entries_of}
+use Rattle.kernel_core.specs.Told.{Told, CoreValue, IsCoreOf, IsSoundCore, given, core_of}
+
+-- An event does the same whatever the log is, and its entries go to the end of the log.
+pub record IsSameBut (log : List Probe) (a b : CoreAndAction) : Type 0 where
+  pub board : a.core.board ≡ b.core.board
+  pub harts : a.core.harts ≡ b.core.harts
+  pub log_is : a.core.log ≡ log ++ b.core.log
+  pub action_is : a.action ≡ b.action
+
+module _ (code : List ℕ) (c : CoreState) where
+  abbrev bare : CoreState
+  bare = record c { log = [] }
+
+  nothing-more : IsSameBut c.log (without_action c) (without_action bare)
+  nothing-more = record { board = refl; harts = refl; log_is = sym (append-nil c.log); action_is = refl }
+
+  end-same : (hart : ℕ) (h : HartState) (begun : List CellWrite) (next : ℕ) (held : ContextState) (end : Option End)
+      → IsSameBut c.log (after_give_done c hart h begun next held end) (after_give_done bare hart h begun next held end)
+  end-same hart h begun next held None = nothing-more
+  end-same hart h begun next held (Some end) = record { board = refl; harts = refl; log_is = refl; action_is = refl }
+
+  give-ready-same : (hart : ℕ) (h : HartState) (begun : List CellWrite) (rd next : ℕ) (held : Option ContextState)
+      → IsSameBut c.log (after_call c hart h GiveReady begun rd next held) (after_call bare hart h GiveReady begun rd next held)
+  give-ready-same hart h begun rd next None = nothing-more
+  give-ready-same hart h begun rd next (Some held) = record { board = refl; harts = refl; log_is = refl; action_is = refl }
+
+  give-done-same : (hart : ℕ) (h : HartState) (begun : List CellWrite) (rd next : ℕ) (held : Option ContextState)
+      → IsSameBut c.log (after_call c hart h GiveDone begun rd next held) (after_call bare hart h GiveDone begun rd next held)
+  give-done-same hart h begun rd next None = nothing-more
+  give-done-same hart h begun rd next (Some held) = end-same hart h begun next held held.end
+
+  step-same : (hart : ℕ) (h : HartState) (step : StepResult) → IsSameBut c.log (after_step c hart h step) (after_step bare hart h step)
+  step-same hart h (Steps after probes did) = record { board = refl; harts = refl; log_is = refl; action_is = refl }
+  step-same hart h (Wants Take begun rd next) = record { board = refl; harts = refl; log_is = refl; action_is = refl }
+  step-same hart h (Wants GiveReady begun rd next) = give-ready-same hart h begun rd next h.held
+  step-same hart h (Wants GiveDone begun rd next) = give-done-same hart h begun rd next h.held
+  step-same hart h Wedged = nothing-more
+
+  go-same : (hart : ℕ) (h : Option HartState) → IsSameBut c.log (after_go code c hart h) (after_go code bare hart h)
+  go-same hart None = nothing-more
+  go-same hart (Some h) = step-same hart h (hart_step code h)
+
+  tick-same : (hart : ℕ) (h : Option HartState) → IsSameBut c.log (without_action (after_tick c hart h)) (without_action (after_tick bare hart h))
+  tick-same hart None = nothing-more
+  tick-same hart (Some h) = record { board = refl; harts = refl; log_is = sym (append-nil c.log); action_is = refl }
+
+  pub event-same : (event : Event) → IsSameBut c.log (event_result code c event) (event_result code bare event)
+  event-same (Go hart) = go-same hart (slice_get c.harts hart)
+  event-same (Tick hart) = tick-same hart (slice_get c.harts hart)
+
+-- A core that was told events, after one event more.
+module _ {K : Type 0} (t : Told) (event : Event) (c after : CoreValue K) (is : IsCoreOf t c) where
+  -- the core that was told, as the run's
+  as-run : record (core_of t) { log = [] } ≡ core_of_run c.run
+  as-run = sym (ap (λ (b : BoardState). record { board = b; harts = c.run.harts; log = [] }) is.board ∙ ap (λ (hs : List HartState). record { board = (core_of t).board; harts = hs; log = [] }) is.harts)
+
+  next-core : core_of (given t event) ≡ after_event t.kernel.code.words (core_of t) event
+  next-core = core-more t.kernel.code.words _ t.events event
+
+  event-is : event_result t.kernel.code.words (record (core_of t) { log = [] }) event ≡ event_on c.run event
+  event-is =
+      ap (λ (x : CoreState). event_result t.kernel.code.words x event) as-run
+      ∙ ap (λ k. event_result k.code.words (core_of_run c.run) event) (sym is.kernel)
+
+  pub told-more : IsAfterEvent c.run after.run event → after.tasks ≡ c.tasks
+      → ((log : List Probe) → StandFor c.log.tally log → StandFor after.log.tally (log ++ entries_of c.run event)) → IsCoreOf (given t event) after
+  told-more run tasks logs =
+      let same = event-same t.kernel.code.words (core_of t) event in
+      let B : CoreState → BoardState = λ x. x.board in
+      let H : CoreState → List HartState = λ x. x.harts in
+      let L : List Probe → Type 0 = λ log. StandFor after.log.tally log in
+      let entries : (core_of t).log ++ entries_of c.run event ≡ (core_of (given t event)).log =
+      ap (λ (x : CoreAndAction). (core_of t).log ++ x.core.log) (sym event-is) ∙ sym same.log_is ∙ sym (ap (λ (x : CoreState). x.log) next-core) in
+      record {
+        is_loaded = is.is_loaded;
+        is_kernel = is.is_kernel;
+        kernel = run.kernel ∙ is.kernel;
+        tasks = tasks ∙ is.tasks;
+        board = run.board ∙ sym (ap (λ (x : CoreAndAction). x.core.board) event-is) ∙ sym same.board ∙ sym (ap B next-core);
+        harts = run.harts ∙ sym (ap (λ (x : CoreAndAction). x.core.harts) event-is) ∙ sym same.harts ∙ sym (ap H next-core);
+        counts = subst L entries (logs (core_of t).log is.counts);
+      }
+
+  -- and it is sound
+  pub told-sound : IsSoundCore (given t event)
+  told-sound = record {
+    sound = stays-sound kernel-harts t.kernel is.is_kernel t.loaded is.is_loaded (t.events ++ event ∷ []);
+    homes = one-home-each kernel-harts t.kernel is.is_kernel t.loaded is.is_loaded (t.events ++ event ∷ []);
+    outputs = outputs-stay kernel-harts t.kernel is.is_kernel t.loaded is.is_loaded (t.events ++ event ∷ []);
+  }

@@ -1,0 +1,89 @@
+-- One step of a hart over a board (this project's own): what it leaves, and what it takes for its queue action to be made.
+use Rattle.std.specs.Prelude.{◌≡◌, ℕ, ◌+◌, ◌≤◌, ◌<◌, List, [], length, Option, Some, None}
+use Rattle.isa_model.specs.declared.ends.End.{End}
+use Rattle.hart_model.specs.declared.calls.QueueCall.TheVariants.{Take, GiveReady, GiveDone}
+use Rattle.hart_model.specs.declared.probe.Probe.{Probe}
+use Rattle.hart_model.specs.Context.{ContextState}
+use Rattle.hart_model.specs.HartState.{HartState}
+use Rattle.hart_model.specs.Writes.{CellWrite, HartAndProbes}
+use Rattle.hart_model.specs.StepResult.{StepResult, Steps, Wants, Wedged}
+use Rattle.hart_model.specs.HartStep.{hart_step, answer_take, answer_give}
+use Rattle.hart_state.specs.Asked.{AsksTake}
+use Rattle.hart_state.specs.UserDeed.{CanCount}
+use Rattle.core_model.specs.declared.action.Action.{Action}
+use Rattle.core_model.specs.declared.action.Action.TheVariants as actions
+use Rattle.core_model.specs.Board.{BoardState, BoardWithSpare, Taken, take_of, give_ready_of, give_done_of}
+use Rattle.core_model.specs.Core.{take_action}
+use Rattle.ready_queue.specs.declared.kind.Kind.{Kind}
+use Rattle.ready_queue.specs.declared.kind.Kind.TheVariants.{Ready, Done}
+use Rattle.ready_queue.specs.Gives.{HasNothingOut, IsOutOn, CanBeGiven}
+
+-- the board, the hart, the entries, and the queue action, if there was one
+pub record Gone : Type 0 where
+  pub board : BoardState
+  pub hart : HartState
+  pub probes : List Probe
+  pub action : Option Action
+
+-- nothing is done
+abbrev pub stays : BoardState → HartState → Gone
+stays b h = record { board = b; hart = h; probes = []; action = None }
+
+abbrev pub after_action : BoardState → HartAndProbes → Action → Gone
+after_action b a action = record { board = b; hart = a.hart; probes = a.probes; action = Some action }
+
+abbrev pub gone_by_take : HartState → List CellWrite → ℕ → ℕ → Taken → Gone
+gone_by_take h begun rd next taken = after_action taken.board (answer_take begun rd next taken.got h) (take_action taken.got)
+
+abbrev pub gone_by_give_ready : BoardState → ℕ → HartState → List CellWrite → ℕ → Option ContextState → Gone
+gone_by_give_ready b number h begun next None = stays b h
+gone_by_give_ready b number h begun next (Some c) =
+    after_action (give_ready_of b number c) (answer_give begun next h) (actions.GaveReady c.body.task_no)
+
+abbrev pub gone_by_end : BoardState → ℕ → HartState → List CellWrite → ℕ → ContextState → Option End → Gone
+gone_by_end b number h begun next c None = stays b h
+gone_by_end b number h begun next c (Some end) =
+    after_action (give_done_of b number c end) (answer_give begun next h) (actions.GaveDone c.body.task_no)
+
+abbrev pub gone_by_give_done : BoardState → ℕ → HartState → List CellWrite → ℕ → Option ContextState → Gone
+gone_by_give_done b number h begun next None = stays b h
+gone_by_give_done b number h begun next (Some c) = gone_by_end b number h begun next c c.end
+
+-- what a step comes to, over the board
+abbrev pub gone_by : BoardState → ℕ → HartState → StepResult → Gone
+gone_by b number h (Steps after probes did) = record { board = b; hart = after; probes = probes; action = None }
+gone_by b number h (Wants Take begun rd next) = gone_by_take h begun rd next (take_of b number)
+gone_by b number h (Wants GiveReady begun rd next) = gone_by_give_ready b number h begun next h.held
+gone_by b number h (Wants GiveDone begun rd next) = gone_by_give_done b number h begun next h.held
+gone_by b number h Wedged = stays b h
+
+-- A step of the hart of this number.
+abbrev pub gone_of : List ℕ → BoardState → ℕ → HartState → Gone
+gone_of code b number h = gone_by b number h (hart_step code h)
+
+-- the step gives back what is held, as one of this kind
+abbrev pub GivesKind : Kind → StepResult → Type 0
+GivesKind Ready (Wants GiveReady begun rd next) = Unit {0}
+GivesKind Done (Wants GiveDone begun rd next) = Unit {0}
+GivesKind kind step = ⊥
+
+-- a context that a hart holds, which may be given
+pub record MayGive (b : BoardState) (number : ℕ) (h : HartState) (kind : Kind) : Type 0 where
+  pub context : ContextState
+  pub held : h.held ≡ Some context
+  pub is_out : IsOutOn b number context
+  pub can_be : CanBeGiven kind context
+
+-- A hart may make its step: it may take where it comes to a take, and give where it comes to a give.
+pub record CanGo (code : List ℕ) (b : BoardWithSpare) (number : ℕ) (h : HartState) : Type 0 where
+  pub is_hart : number < 8
+  pub count : CanCount h.held
+  pub spare : length b.lists.out + 2 ≤ b.spare
+  pub takes : AsksTake (hart_step code h) → HasNothingOut b.lists number
+  pub gives : (kind : Kind) → GivesKind kind (hart_step code h) → MayGive b.lists number h kind
+
+-- A board and a hart are as a step leaves them, with this action.
+pub record IsGone (g : Gone) (b : BoardState) (h : HartState) (action : Option Action) : Type 0 where
+  pub board : b ≡ g.board
+  pub hart : h ≡ g.hart
+  pub action_is : action ≡ g.action

@@ -1,0 +1,6 @@
+pub mod Counted
+pub mod Running
+pub mod Going
+pub mod Told
+pub mod Snapshots
+pub mod SnapshotNow

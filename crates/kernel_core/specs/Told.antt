@@ -1,0 +1,53 @@
+-- What a core was told, and what it is then (this project's own).
+use Rattle.std.specs.Prelude.{◌≡◌, ℕ, List, [], ◌∷◌, ◌++◌, length}
+use Rattle.core_model.specs.declared.event.Event.{Event}
+use Rattle.core_model.specs.declared.loaded.Loaded.{Loaded}
+use Rattle.core_model.specs.Core.{CoreState, core_after}
+use Rattle.core_model.specs.Invariant.{IsCoreSound}
+use Rattle.core_model.specs.Loaded.{IsLoaded}
+use Rattle.core_laws.specs.KernelStates.{KernelParts, IsKernel}
+use Rattle.core_laws.specs.Homes.{HasExactHomes}
+use Rattle.core_laws.specs.Outputs.{AreOutputsSound}
+use Rattle.probe_log.specs.Counts.{StandFor}
+use Rattle.kernel_core.specs.Counted.{CountedValue}
+use Rattle.kernel_core.specs.Running.{RunValue}
+
+-- the bundle, the kernel, and the events so far
+pub record Told : Type 0 where
+  pub loaded : Loaded
+  pub kernel : KernelParts
+  pub events : List Event
+
+-- told nothing but the bundle and the kernel, and told one event more
+abbrev pub told_at_boot : Loaded → KernelParts → Told
+told_at_boot loaded kernel = record { loaded = loaded; kernel = kernel; events = [] }
+
+abbrev pub given : Told → Event → Told
+given t event = record t { events = t.events ++ event ∷ [] }
+
+-- the core of all that was told
+abbrev pub core_of : Told → CoreState
+core_of t = core_after t.loaded t.kernel.code t.events
+
+-- a core, how many tasks it has, and its keeper with the counts
+pub record CoreValue (K : Type 0) : Type 0 where
+  pub run : RunValue
+  pub tasks : ℕ
+  pub log : CountedValue K
+
+-- It is that of what was told, and the counts are those of its log.
+pub record IsCoreOf {K : Type 0} (t : Told) (c : CoreValue K) : Type 0 where
+  pub is_loaded : IsLoaded t.loaded
+  pub is_kernel : IsKernel t.kernel
+  pub kernel : c.run.kernel ≡ t.kernel
+  pub tasks : c.tasks ≡ length t.loaded.tasks
+  pub board : c.run.board.lists ≡ (core_of t).board
+  pub harts : c.run.harts ≡ (core_of t).harts
+  pub counts : StandFor c.log.tally (core_of t).log
+
+-- What holds of every core that was told something: it is sound, each task has exactly one home, and the outputs are beginnings of
+-- those of the undisturbed runs.
+pub record IsSoundCore (t : Told) : Type 0 where
+  pub sound : IsCoreSound t.loaded (core_of t)
+  pub homes : HasExactHomes (length t.loaded.tasks) (core_of t).board
+  pub outputs : AreOutputsSound t.loaded (core_of t)

@@ -1,0 +1,61 @@
+//! A kernel.
+
+ghost use Rattle.std.specs.Prelude.{◌≡◌, IfOk};
+ghost use Rattle.core_model.specs.KernelWords as definition;
+ghost use Rattle.core_laws.specs.KernelStates.{emitted_parts};
+
+use std::alloc::{AllocError, Global};
+use std::marker::Model;
+use switch_emit::{KernelCode, kernel_code};
+
+/// A kernel's code, with how many words its save part and its restore part have, of which it is proved that they save and restore.
+#[derive(Debug, Drop)]
+pub struct Kernel {
+    code: KernelCode,
+    save: u32,
+    restore: u32,
+}
+
+impl Model for Kernel {
+    ghost use Rattle.core_laws.specs.KernelStates.{KernelParts, IsKernel};
+
+    ghost Value = { KernelParts };
+
+    ghost view = { λ k. record { code = k.code; save = k.save; restore = k.restore } };
+
+    ghost invariant = { λ k. IsKernel (record { code = k.code; save = k.save; restore = k.restore }) };
+}
+
+impl Kernel {
+    /// The kernel of this project, with its own parts. `AllocError` is want of memory.
+    pub fn emitted(alloc: Global) -> Result<Kernel, AllocError>
+        ensures kernel { IfOk result (λ k. k ≡ emitted_parts) }
+    {
+        Ok(Kernel {
+            code: kernel_code(alloc)?,
+            save: 101,
+            restore: 62,
+        })
+    }
+
+    /// Its code.
+    pub fn code(&self) -> &KernelCode
+        ensures code { result.now ≡ self.now.code }
+    {
+        &self.code
+    }
+
+    /// How many words its save part has, at most 300.
+    pub fn save(&self) -> u32
+        ensures save { result ≡ self.now.save }
+    {
+        self.save
+    }
+
+    /// How many words its restore part has, at most 300.
+    pub fn restore(&self) -> u32
+        ensures restore { result ≡ self.now.restore }
+    {
+        self.restore
+    }
+}
