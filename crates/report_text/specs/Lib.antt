@@ -1,3 +1,6 @@
 pub mod Texts
 pub mod AloneReport
 pub mod AsmListing
+pub mod Listing
+pub mod Explanations
+pub mod Report

@@ -1,12 +1,19 @@
-//! The texts of reports. Each line ends with a line feed.
+//! The texts of reports and listings. Each line ends with a line feed.
 #![tactic(auto)]
 
 mod alone;
-mod listing;
+mod append;
+mod asm_listing;
+mod explanations;
+mod log_listing;
+mod snapshot_report;
 mod texts;
 
 pub use alone::alone_report;
-pub use listing::asm_text;
+pub use asm_listing::asm_text;
+pub use explanations::explain_text;
+pub use log_listing::listing;
+pub use snapshot_report::{order_line, report};
 
 #[cfg(test)]
 mod tests;
