@@ -1,2 +1,7 @@
 pub mod CommandWords
+pub mod CoreFacts
+pub mod FewEntries
+pub mod Playing
+pub mod Reporting
+pub mod SoundScripts
 pub mod Answering

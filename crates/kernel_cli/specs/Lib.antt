@@ -2,6 +2,9 @@ pub mod Commands
 pub mod Statuses
 pub mod AloneTasks
 pub mod Refusals
+pub mod Scripts
+pub mod Playing
 pub mod Answer
+pub mod Soundness
 pub mod Outcome
 pub mod TopCall

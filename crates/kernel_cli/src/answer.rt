@@ -1,15 +1,16 @@
 //! The answers to commands.
 
-ghost use Rattle.std.specs.Prelude.{◌≡◌, ◌≤◌, length, IfOk};
+ghost use Rattle.std.specs.Prelude.{◌≡◌, ◌≤◌, length, option_map, IfOk};
 ghost use Rattle.core_model.specs.Loaded.{IsLoaded};
 ghost use Rattle.bundle_text.specs.Lines.{bundle_of};
 ghost use Rattle.bundle_text.specs.Range.{IsInRange};
 ghost use Rattle.rv_loader.specs.Loading.{loading_of};
-ghost use Rattle.kernel_cli.specs.Answer.{text_of_command, loaded_answer, bundle_answer, harts, input_limit};
+ghost use Rattle.kernel_cli.specs.Answer.{done, answer_of_text, command_answer, loaded_answer, bundle_answer, harts, input_limit};
 ghost use Rattle.kernel_cli.specs.Outcome.{status_of, IsAnswer};
 
 use crate::command::Command;
 use crate::refusals::{bundle_refusal, load_refusal};
+use crate::scripts::{explain, script, script_probes};
 use crate::status::Status;
 use crate::tasks::ends;
 use bundle_text::{Bundle, BundleKind, read_bundle};
@@ -27,6 +28,8 @@ pub(crate) enum Outcome {
     Fine,
     /// The input was refused.
     BadInput,
+    /// The log has no room.
+    LogFull,
 }
 
 /// The status of what came of the input.
@@ -36,6 +39,7 @@ pub(crate) fn status_of(outcome: Outcome) -> Status
     match outcome {
         Outcome::Fine => Status::Fine,
         Outcome::BadInput => Status::BadInput,
+        Outcome::LogFull => Status::LogFull,
     }
 }
 
@@ -46,17 +50,44 @@ pub(crate) struct Made {
     pub(crate) text: Vec<u8>,
 }
 
-/// What a command writes of a loaded bundle.
-fn text_of(alloc: Global, command: Command, loaded: &Loaded) -> Result<Vec<u8>, AllocError>
+/// The command is done, with this text.
+fn done(text: Vec<u8>) -> Made
+    ensures answer { IsAnswer result (done text.items) }
+{
+    Made {
+        outcome: Outcome::Fine,
+        text,
+    }
+}
+
+/// The answer of a text that a log was kept for, or that the log has no room.
+fn logged(alloc: Global, text: Option<Vec<u8>>) -> Result<Made, AllocError>
+    ensures answer { IfOk result (λ made. IsAnswer made (answer_of_text (option_map (λ text. text.items) text))) }
+{
+    match text {
+        Some(text) => Ok(done(text)),
+        None => Ok(Made {
+            outcome: Outcome::LogFull,
+            text: b"log full\n".to_vec(alloc)?,
+        }),
+    }
+}
+
+/// The answer to a command over a loaded bundle.
+fn answer_loaded(alloc: Global, command: Command, loaded: &Loaded) -> Result<Made, AllocError>
     requires loaded { IsLoaded loaded.now }
-    ensures text { IfOk result (λ text. text.items ≡ text_of_command command loaded.now) }
+    requires harts { loaded.now.harts ≡ harts }
+    ensures answer { IfOk result (λ made. IsAnswer made (command_answer command loaded.now)) }
 {
     match command {
         Command::Alone => {
             let ends = ends(alloc, loaded.tasks.as_slice())?;
-            alone_report(alloc, ends.as_slice())
+            Ok(done(alone_report(alloc, ends.as_slice())?))
         }
-        Command::Asm => asm_text(alloc, loaded.tasks.as_slice()),
+        Command::Asm => Ok(done(asm_text(alloc, loaded.tasks.as_slice())?)),
+        Command::Script { probes: false } => Ok(done(script(alloc, loaded)?)),
+        Command::Script { probes: true } => logged(alloc, script_probes(alloc, loaded)?),
+        Command::Explain => logged(alloc, explain(alloc, loaded)?),
     }
 }
 
@@ -66,10 +97,7 @@ fn answer_bundle(alloc: Global, command: Command, bundle: &Bundle) -> Result<Mad
     ensures answer { IfOk result (λ made. IsAnswer made (loaded_answer command (loading_of bundle.now harts))) }
 {
     match load(alloc, bundle, HARTS) {
-        Ok(loaded) => Ok(Made {
-            outcome: Outcome::Fine,
-            text: text_of(alloc, command, &loaded)?,
-        }),
+        Ok(loaded) => answer_loaded(alloc, command, &loaded),
         Err(LoadFault::Memory) => Err(AllocError),
         Err(fault) => Ok(Made {
             outcome: Outcome::BadInput,

@@ -2,9 +2,27 @@
 
 ghost use Rattle.std.specs.Prelude.{◌≡◌, ◌↔◌, ℕ, List, Some};
 ghost use Rattle.kernel_cli.specs.Commands.{SpellsCommand, command_of};
+ghost use Rattle.kernel_cli.specs.Soundness.{AreScriptsSound};
 ghost use Rattle.kernel_cli.specs.declared.command.Command.{Command};
+
+use core_laws::{
+    core_stays_sound, each_task_has_one_home, emitted_is_kernel, outputs_stay_beginnings,
+};
+use rv_loader::loading_is_sound;
 
 /// The function that decides the words gives exactly the command that they spell.
 pub fn commands_are_decided()
     ensures decided { (words : List (List ℕ)) (command : Command) → (command_of words ≡ Some command) ↔ SpellsCommand words command }
 {}
+
+/// The core of every bundle that bytes are read and loaded as is sound after any number of the bundle's events, each task has exactly
+/// one home in it, and what a task has put out is a beginning of its output alone.
+pub fn scripts_are_sound()
+    ensures sound { AreScriptsSound }
+{
+    loading_is_sound();
+    core_stays_sound();
+    outputs_stay_beginnings();
+    each_task_has_one_home();
+    emitted_is_kernel();
+}

@@ -18,6 +18,8 @@ pub enum Status {
     WriteFault,
     /// Want of memory; nothing is written.
     Memory,
+    /// The input was read to its end, and its log would have too many entries; the line that says so is written.
+    LogFull,
 }
 
 /// The number that the program ends with.
@@ -31,5 +33,6 @@ pub fn status_number(status: Status) -> u8
         Status::ReadFault => 4,
         Status::WriteFault => 5,
         Status::Memory => 6,
+        Status::LogFull => 7,
     }
 }

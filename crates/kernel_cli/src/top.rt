@@ -7,6 +7,7 @@ ghost use Rattle.kernel_cli.specs.TopCall.{WritesOrFails, IsAnswered};
 
 use crate::answer::{Made, answer, status_of};
 use crate::command::{Command, read_words};
+use crate::laws::scripts_are_sound;
 use crate::status::Status;
 use io_edge::{Gate, ReadEnd, Sink, Source, read_all, write_all};
 use std::alloc::Global;
@@ -42,6 +43,7 @@ fn do_command<S: Source, K: Sink>(
 ) -> Status
     ensures answered { IsAnswered S.left S.faults K.held K.faults (Some command) src.old src.new sink.old sink.new result }
 {
+    scripts_are_sound();
     match read_all(alloc, src, INPUT_LIMIT) {
         Err(ReadEnd::ReadFault) => Status::ReadFault,
         Err(ReadEnd::Memory) => Status::Memory,

@@ -10,8 +10,11 @@ use std::{env, io};
 /// The commands, one a line.
 const USAGE: &str = "\
 usage: msktask COMMAND
-  alone   runs each task of the bundle on standard input by itself
-  asm     lists the code of each task of the bundle on standard input
+  alone          runs each task of the bundle on standard input by itself
+  asm            lists the code of each task of the bundle
+  script         runs the harts of the kernel by the events of the bundle
+  script probes  the same, with every entry of the log before the report
+  explain        the same, with each entry that isn't public and what it shows
 ";
 
 /// The status of arguments that can't be had: want of memory, or words that are no text.

@@ -1,0 +1,21 @@
+-- The snapshot of the core is that of its events.
+use Rattle.std.proofs.Common.{◌≡◌, ◌∙◌, subst, length, IfOk}
+use Rattle.core_model.specs.Events.{events_of}
+use Rattle.kernel_core.specs.declared.snapshot.Snapshot.{Snapshot}
+use Rattle.kernel_core.specs.Snapshots.{snapshot_of}
+use Rattle.report_text.specs.Report.{report_of}
+use Rattle.kernel_cli.specs.Playing.{told_of, core_by}
+use Rattle.kernel_cli.proofs.Reporting.{snapshot_ends}
+use Rattle.kernel_cli.proofs.scripts.core_report.Goals as goal
+
+pub report-requires : goal.report-requires
+report-requires g c = record {
+  ends = snapshot_ends (length c.args.loaded.now.tasks) (core_by c.args.loaded.now (events_of c.args.loaded.now.events)) c.in_ok-snapshot.field-0 (c.in_ok-snapshot.ensures.snapshot ∙ c.snapshot.ensures.told (told_of c.args.loaded.now (events_of c.args.loaded.now.events)) c.requires.played.core);
+}
+
+pub returns : goal.returns
+returns g c =
+    let P : Snapshot → Type 0 = λ s. IfOk c.report.result (λ text. text.items ≡ report_of s) in
+    let same : c.in_ok-snapshot.field-0 ≡ snapshot_of (length c.args.loaded.now.tasks) (core_by c.args.loaded.now (events_of c.args.loaded.now.events)) =
+    c.in_ok-snapshot.ensures.snapshot ∙ c.snapshot.ensures.told (told_of c.args.loaded.now (events_of c.args.loaded.now.events)) c.requires.played.core in
+    record { text = subst P same c.report.ensures.bytes }
