@@ -4,7 +4,7 @@ use crate::harness::{FORTY_TWO, FORTY_TWO_REPORT, joined, writes};
 use std::test::Fail;
 
 /// The lines of a task but its last, and the report of it alone.
-const TASKS: [(&str, &str); 21] = [
+pub(crate) const TASKS: [(&str, &str); 21] = [
     // It puts out 42 and exits with it: as it is, without its words, and with a limit that ends it before.
     (
         "task fuel 5 out 4 data 0\nwords 02a00513 00100893 00000073 00000893 00000073\n",

@@ -95,3 +95,23 @@ pub(crate) fn writes<R: Abort + AllocGlobal>(
 ) -> Result<(), Fail> {
     runs(rt, &[command], input, SOUND, number, written.as_bytes(), 0)
 }
+
+/// What a command writes over an input that is read to its end, from a sound edge.
+pub(crate) fn output_of<R: Abort + AllocGlobal>(
+    rt: &R,
+    command: &str,
+    input: &[u8],
+) -> Result<Vec<u8>, Fail> {
+    let alloc = rt.alloc();
+    let words = words_of(alloc, &[command])?;
+    let mut src = MemSource::new(input.to_vec(alloc)?, 4096, Vec::new(alloc));
+    let mut sink = MemSink::new(alloc, 4096, 4096, Vec::new(alloc))?;
+    let status = one_thread(alloc, words.as_slice(), &mut src, &mut sink);
+    assert_eq!(rt;
+        status_number(status),
+        0,
+        "{command}, {} bytes",
+        input.len()
+    );
+    Ok(sink.bytes().to_vec(alloc)?)
+}

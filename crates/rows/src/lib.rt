@@ -8,6 +8,10 @@ mod edge_rows;
 #[cfg(test)]
 mod harness;
 #[cfg(test)]
+mod hart_rows;
+#[cfg(test)]
 mod kernel_rows;
 #[cfg(test)]
 mod refused_rows;
+#[cfg(test)]
+mod script_rows;
