@@ -1,6 +1,6 @@
 #!/usr/bin/env bash
-# Compares what the program prints for each example with what stands beside it: NAME.bundle with NAME.alone, and with NAME.asm
-# where there is one. Prints what differs, and nothing where all agree.
+# Compares what the program prints for each example with what stands beside it: NAME.bundle with NAME.alone, and with NAME.asm,
+# NAME.script, NAME.probes (of `script probes`) and NAME.explain where there is one. Prints what differs, and nothing where all agree.
 # Ends with 1 where something differs or a report is missing. Where the program isn't built it says so and ends with 0.
 set -u
 cd "$(dirname "$0")" || exit 2
@@ -12,7 +12,10 @@ fi
 
 # what a command prints for a bundle, and then its status
 printed() {
-    "$program" "$1" <"$2"
+    case $1 in
+        probes) "$program" script probes <"$2" ;;
+        *) "$program" "$1" <"$2" ;;
+    esac
     echo "status $?"
 }
 
@@ -24,7 +27,7 @@ wanted() {
 differ=0
 for bundle in *.bundle; do
     name=${bundle%.bundle}
-    for command in alone asm; do
+    for command in alone asm script probes explain; do
         [ -e "$name.$command" ] || [ "$command" = alone ] || continue
         diff --label "$name.$command" --label "$command < $bundle" -u <(wanted "$name.$command") <(printed "$command" "$bundle") ||
             differ=1
