@@ -1,0 +1,151 @@
+-- Two trapped harts that are alike, whose tasks take a word of their tapes: both are led to the give of ready contexts, alike.
+use Rattle.std.proofs.Common.{◌≡◌, ℕ, ◌+◌, ◌*◌, ◌≤◌, ◌<◌, inr, List, length, Some, slice_get, get_or, refl, sym, ap, subst, ◌∙◌, lit<, lit≤, le_refl, arith, ne_eqb}
+use Rattle.std.proofs.lemmas.Option.{slice_get_within}
+use Rattle.isa_model.specs.declared.task.Task.{Task}
+use Rattle.isa_model.specs.declared.latch.Latch.TheVariants as latches
+use Rattle.isa_model.specs.Bits.{low_word}
+use Rattle.isa_model.specs.Alone.{alone_at}
+use Rattle.isa_model.specs.AloneValue.{alone_value}
+use Rattle.hart_model.specs.declared.place.Place.TheVariants.{Reg}
+use Rattle.hart_model.specs.declared.tag.Cell.{Cell}
+use Rattle.hart_model.specs.Context.{ContextState, slot_word, task_of}
+use Rattle.hart_model.specs.Ports.{AdvancesTape}
+use Rattle.hart_model.specs.HartState.{HartState, hart_cell}
+use Rattle.hart_model.specs.MachineStep.{held_after_side}
+use Rattle.core_model.specs.Invariant.{IsTruthful, IsOwn}
+use Rattle.abstract_run.specs.AbstractCell.{AnyTagged}
+use Rattle.abstract_run.specs.SymbolicPath.{AreSo}
+use Rattle.core_laws.specs.KernelStates.{KernelParts, IsKernel, middle_len, middle_at, give_ready_index}
+use Rattle.core_laws.specs.Starts.{IsCallTrap, IsGivingReady}
+use Rattle.core_laws.proofs.Trapped.{trapped_setting, trapped-value}
+use Rattle.core_laws.proofs.AloneServices.{with_input, call-inputs, input-other}
+use Rattle.core_laws.proofs.ReadyPaths.{given_slot, in_answers, in_asked, in-path}
+use Rattle.core_laws.proofs.ReadyCalls.{called, left-over, service-goes-on, own-after, pc-after, body-after, within-after}
+use Rattle.core_laws.proofs.ReadyIn.{tape_cell}
+use Rattle.core_laws.proofs.TrapEnds.{EndSays}
+use Rattle.core_laws.proofs.PathStates.{context_at}
+use Rattle.core_laws.proofs.ReadyEnd.{reg-is, tape-is, giving-ready}
+use Rattle.core_laws.proofs.GivenSlot.{given-reg, given-bound}
+use Rattle.alike_laws.proofs.BothWays.{both-map}
+use Rattle.alike_laws.proofs.BothKernel.{IsKernelOfBoth}
+use Rattle.alike_laws.proofs.BothTraps.{AreAsEndsSay, both-trap-ends}
+use Rattle.alike_laws.proofs.BothReady.{AreGivingReady, trap-kinds}
+use Rattle.alike_laws.proofs.BothOutcomes.{InputsLeadBoth}
+use native.Mathlib.Decide.{dec_le}
+
+-- the cause is a call's, a7 is 2, and the tape gives the word
+in-so : (cause a7 : ℕ) (held : ContextState) (word : ℕ) → cause ≡ 8 → a7 ≡ 2 → slice_get held.body.tape held.body.tape_at ≡ Some word
+    → AreSo (in_asked cause a7 held (tape_cell held word))
+in-so cause a7 held word e f given =
+    let left = left-over held.body.tape_at (length held.body.tape) (slice_get_within held.body.tape held.body.tape_at word given) in
+    rw (e, f) (refl, (refl, (refl, (refl, (left, ((given, refl), tt))))))
+
+module _ {tasks : List Task} {number n : ℕ} {h : HartState} {c : ContextState} (call : IsCallTrap tasks number n h c) (word : ℕ)
+    (is_in : alone_value (task_of c.body) n (latches.Reg 17) ≡ 2) (given : slice_get c.body.tape (alone_at (task_of c.body) n).tape_at ≡ Some word) where
+  -- the state of the run alone after the call
+  input-state : called c n ≡ with_input word (alone_at (task_of c.body) n)
+  input-state =
+      let T = task_of c.body in
+      call-inputs T (alone_value T n (latches.Reg 17)) (alone_value T n (latches.Reg 10)) word (alone_at T n) is_in given
+
+  -- the word is a0 of the run alone after the call
+  word-is : word ≡ alone_value (task_of c.body) c.body.count (latches.Reg 10)
+  word-is = sym ((service-goes-on call (with_input word (alone_at (task_of c.body) n)) input-state call.went_on).value (latches.Reg 10))
+
+  -- the tape's cell says the truth
+  tape-truthful : IsTruthful tasks (tape_cell c word)
+  tape-truthful = record { task = task_of c.body; is_task = call.trap.is_task; is_value = word-is }
+
+  -- the tape's cell is the task's own a0 after the call
+  tape-own : IsOwn c.body.task_no (task_of c.body) c.body.count (latches.Reg 10) (tape_cell c word)
+  tape-own = inr (record {
+    since = c.body.count;
+    since_low = (let e : c.body.count ≡ n + 1 = call.count in omega arith);
+    since_high = le_refl c.body.count;
+    tag = refl;
+    value = word-is;
+    unchanged = λ k low high. (let same : c.body.count ≡ k = omega arith in
+        let P : ℕ → Type 0 = λ m. alone_value (task_of c.body) m (latches.Reg 10) ≡ alone_value (task_of c.body) c.body.count (latches.Reg 10) in
+        subst P same refl);
+  })
+
+  -- each register's word of the slot is the task's own after the call
+  given-own : (at pc : ℕ) (after : ContextState) (g : HartState)
+      → EndSays (trapped_setting tasks n h c (tape_cell c word)) number at (given_slot (trapped_setting tasks n h c (tape_cell c word)) pc) after g
+      → (i : ℕ) → 1 ≤ i → i < 32 → IsOwn c.body.task_no (task_of c.body) c.body.count (latches.Reg i) (slot_word (context_at after g) i)
+  given-own at pc after g says i low high = elim (dec_le 10 i) [
+    | yes above ↦ by-above (dec_le 11 i) above
+    | no below ↦ other (λ same. absurd (omega (arith, same)))
+  ]
+    where
+      other : (i ≡ 10 → ⊥) → IsOwn c.body.task_no (task_of c.body) c.body.count (latches.Reg i) (slot_word (context_at after g) i)
+      other differs =
+          let s = trapped_setting tasks n h c (tape_cell c word) in
+          let P : Cell → Type 0 = λ cell. IsOwn c.body.task_no (task_of c.body) c.body.count (latches.Reg i) cell in
+          let same : slot_word (context_at after g) i ≡ hart_cell h (Reg i) =
+          reg-is s i (get_or (given_slot s pc) i AnyTagged) (slot_word (context_at after g) i) (given-reg s pc i low high differs) (says.denoted i) in
+          let kept = input-other word (alone_at (task_of c.body) n) i (ne_eqb 10 i (λ ten. differs (sym ten))) in
+          let state = with_input word (alone_at (task_of c.body) n) in
+          subst P (sym same) (own-after call state input-state call.went_on (latches.Reg i) (hart_cell h (Reg i)) kept (call.trap.registers i low high))
+
+      by-above : Dec (11 ≤ i) → 10 ≤ i → IsOwn c.body.task_no (task_of c.body) c.body.count (latches.Reg i) (slot_word (context_at after g) i)
+      by-above (yes more) above = other (λ same. absurd (omega (arith, same)))
+      by-above (no less) above =
+          let s = trapped_setting tasks n h c (tape_cell c word) in
+          let ten : 10 ≡ i = omega arith in
+          let P : Cell → Type 0 = λ cell. IsOwn c.body.task_no (task_of c.body) c.body.count (latches.Reg 10) cell in
+          let Q : ℕ → Type 0 = λ j. IsOwn c.body.task_no (task_of c.body) c.body.count (latches.Reg j) (slot_word (context_at after g) j) in
+          let same : slot_word (context_at after g) 10 ≡ tape_cell c word =
+          tape-is s (get_or (given_slot s pc) 10 AnyTagged) (slot_word (context_at after g) 10) refl (says.denoted 10) in
+          subst Q ten (subst P (sym same) tape-own)
+
+  -- at the end of the path the hart gives a ready context
+  in-given : (k : KernelParts) (f : HartState)
+      → EndSays (trapped_setting tasks n h c (tape_cell c word)) number (middle_at k + 4 * give_ready_index)
+      (given_slot (trapped_setting tasks n h c (tape_cell c word)) (low_word (h.csrs.mepc + 4))) (held_after_side AdvancesTape c) f
+      → IsGivingReady tasks number (middle_at k + 4 * give_ready_index) f (context_at (held_after_side AdvancesTape c) f)
+  in-given k f says =
+      let T = task_of c.body in
+      let trap = call.trap in
+      let s = trapped_setting tasks n h c (tape_cell c word) in
+      let at = middle_at k + 4 * give_ready_index in
+      let pc = low_word (h.csrs.mepc + 4) in
+      let after : ContextState = held_after_side AdvancesTape c in
+      let state = with_input word (alone_at T n) in
+      giving-ready s number at pc (given_slot s pc) after f says refl
+      (body-after call state input-state call.went_on c.body.output (c.body.tape_at + 1) trap.output (ap (λ t. t + 1) trap.tape_at) (λ at. refl))
+      trap.no_end refl refl (pc-after call state input-state call.went_on refl)
+      (given-own at pc after f says) (λ i low. given-bound s pc i low)
+      trap.slot trap.valid (within-after call state input-state call.went_on)
+
+  -- and what the path asks is so
+  asked-so : AreSo (in_asked h.csrs.mcause (hart_cell h (Reg 17)).value c (tape_cell c word))
+  asked-so =
+      in-so h.csrs.mcause (hart_cell h (Reg 17)).value c word call.trap.mcause (trapped-value call.trap 17 (lit≤ tt) (lit< tt) ∙ is_in)
+      (ap (λ t. slice_get c.body.tape t) call.trap.tape_at ∙ given)
+
+-- Both take a word.
+pub in-both : (k : KernelParts) → IsKernel k → IsKernelOfBoth k → InputsLeadBoth k
+in-both k kernel of_both tasks others number n m h g c d word found call second alike is is_too given given_too =
+    let s = trapped_setting tasks n h c (tape_cell c word) in
+    let r = trapped_setting others m g d (tape_cell d found) in
+    let at = middle_at k + 4 * give_ready_index in
+    let steps = k.save + length in_answers in
+    let idle = middle_len + k.restore + 1 in
+    let slot = given_slot s (low_word (h.csrs.mepc + 4)) in
+    let words = given_slot r (low_word (g.csrs.mepc + 4)) in
+    let after : ContextState = held_after_side AdvancesTape c in
+    let later : ContextState = held_after_side AdvancesTape d in (
+      steps,
+      both-map k.code.words steps (AreAsEndsSay s r number at slot words after later) (AreGivingReady tasks others k number) h g
+          (λ x y both. record {
+            gives = (context_at after x, in-given call word is given k x both.says);
+            other = (context_at later y, in-given second found is_too given_too k y both.other);
+            alike = both.alike;
+          })
+          (both-trap-ends k kernel of_both call.trap second.trap (tape_cell c word) (tape_cell d found)
+          (tape-truthful call word is given) (tape-truthful second found is_too given_too) alike in_answers give_ready_index slot words after later
+          (in_asked h.csrs.mcause (hart_cell h (Reg 17)).value c (tape_cell c word)) (in_asked g.csrs.mcause (hart_cell g (Reg 17)).value d (tape_cell d found))
+          (in-path s idle h.csrs c) (in-path r idle g.csrs d) (asked-so call word is given) (asked-so second found is_too given_too)
+          (trap-kinds call.trap second.trap alike)),
+    )

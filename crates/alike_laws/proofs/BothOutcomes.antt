@@ -1,0 +1,159 @@
+-- Two harts that are alike after a step in user mode, with tasks that are alike: they go on in user mode, or the same trap leads both on.
+use Rattle.std.proofs.Common.{◌≡◌, ℕ, ◌+◌, inl, inr, List, slice_get, Some, None, refl, sym, ap, ◌∙◌, arith}
+use Rattle.isa_model.specs.declared.task.Task.{Task}
+use Rattle.isa_model.specs.declared.control.Control.{Control}
+use Rattle.isa_model.specs.declared.latch.Latch.TheVariants as latches
+use Rattle.isa_model.specs.Alone.{Executed, alone_at, after_instr, after_call, last_of}
+use Rattle.isa_model.specs.AloneValue.{alone_value}
+use Rattle.hart_model.specs.declared.tag.Mode.TheVariants.{User, Machine}
+use Rattle.hart_model.specs.Csrs.{CsrFile}
+use Rattle.hart_model.specs.Context.{ContextState, task_of}
+use Rattle.hart_model.specs.HartState.{HartState}
+use Rattle.core_model.specs.LowEquivalence.{AreTasksAlike}
+use Rattle.core_laws.specs.KernelStates.{KernelParts, IsKernel}
+use Rattle.core_laws.specs.Starts.{IsAtStart, IsAtTrap, IsCallTrap}
+use Rattle.core_laws.specs.UserLeads.{IsUserOutcome}
+use Rattle.alike_laws.specs.AlikeHarts.{AreHartsAlike}
+use Rattle.alike_laws.specs.AlikeCores.{LedBoth}
+use Rattle.alike_laws.proofs.UserCsrs.{csrs-agree}
+use Rattle.alike_laws.proofs.UserAlike.{contexts_alike}
+use Rattle.alike_laws.proofs.ControlItems.{same-item}
+use Rattle.alike_laws.proofs.BothWays.{both-map}
+use Rattle.alike_laws.proofs.BothKernel.{IsKernelOfBoth}
+use Rattle.alike_laws.proofs.BothReady.{AreGivingReady, LeadBothToReady, timer-both, yield-both, out-both}
+use Rattle.alike_laws.proofs.BothDone.{AreGivingDone, LeadBothToDone, fuel-both, fault-both, exit-both, out-full-both, tape-end-both, bad-call-both}
+use Rattle.alike_laws.proofs.BothCalls.{BothCalls, BothExit, BothOut, BothFill, BothIn, BothRunOut, BothYield, BothBad, call-case, both-cases}
+
+-- Two harts where they start, each with the tasks of its own bundle, that are alike.
+pub record AreAtStarts (tasks others : List Task) (k : KernelParts) (number : ℕ) (h g : HartState) : Type 0 where
+  pub start : IsAtStart tasks k number h
+  pub other : IsAtStart others k number g
+  pub alike : AreHartsAlike h g
+
+-- Two tasks that are alike, and the last states of whose runs alone have one pc.
+pub record HaveAlikeRuns (T U : Task) : Type 0 where
+  pub tasks : AreTasksAlike T U
+  pub last : (last_of T).pc ≡ (last_of U).pc
+
+-- what is left to be shown of two tasks that take words of their tapes
+abbrev pub InputsLeadBoth : KernelParts → Type 0
+InputsLeadBoth k = (tasks others : List Task) (number n m : ℕ) (h g : HartState) (c d : ContextState) (word found : ℕ)
+    → IsCallTrap tasks number n h c → IsCallTrap others number m g d → AreHartsAlike h g
+    → alone_value (task_of c.body) n (latches.Reg 17) ≡ 2 → alone_value (task_of d.body) m (latches.Reg 17) ≡ 2
+    → slice_get c.body.tape (alone_at (task_of c.body) n).tape_at ≡ Some word → slice_get d.body.tape (alone_at (task_of d.body) m).tape_at ≡ Some found
+    → LeadBothToReady tasks others k number h g
+
+module _ (k : KernelParts) (kernel : IsKernel k) (of_both : IsKernelOfBoth k) (inputs : InputsLeadBoth k) (tasks others : List Task) (number : ℕ) where
+  abbrev Led : HartState → HartState → Type 0
+  Led h g = LedBoth (AreAtStarts tasks others k) k number h g
+
+  -- the gives are starts
+  ready-led : (h g : HartState) → LeadBothToReady tasks others k number h g → Led h g
+  ready-led h g way = (
+    way.0,
+    both-map k.code.words way.0 (AreGivingReady tasks others k number) (AreAtStarts tasks others k number) h g
+        (λ x y there. record { start = inr (inl there.gives); other = inr (inl there.other); alike = there.alike }) way.1,
+  )
+
+  done-led : (h g : HartState) → LeadBothToDone tasks others k number h g → Led h g
+  done-led h g way = (
+    way.0,
+    both-map k.code.words way.0 (AreGivingDone tasks others k number) (AreAtStarts tasks others k number) h g
+        (λ x y there. record { start = inr (inr (inl there.gives)); other = inr (inr (inl there.other)); alike = there.alike }) way.1,
+  )
+
+  module _ (h g : HartState) (c d : ContextState) (alike : AreHartsAlike h g) where
+    -- Both call.
+    module _ (n m : ℕ) (f : IsCallTrap tasks number n h c) (u : IsCallTrap others number m g d) (runs : HaveAlikeRuns (task_of c.body) (task_of d.body)) where
+      abbrev T : Task
+      T = task_of c.body
+
+      abbrev U : Task
+      U = task_of d.body
+
+      same-count : n ≡ m
+      same-count =
+          let one : c.body.count ≡ n + 1 = f.count in
+          let two : d.body.count ≡ m + 1 = u.count in
+          let same : c.body.count ≡ d.body.count = (contexts_alike h.held g.held c d alike.held f.trap.held u.trap.held).body.count in
+          omega (arith, one, two, same)
+
+      same-deed : (after_instr T (alone_at T n)).deed ≡ (after_instr U (alone_at U m)).deed
+      same-deed =
+          let went : (alone_at U n).end ≡ None = ap (λ i. (alone_at U i).end) same-count ∙ u.went_on in
+          ap (λ (x : Control). x.deed) (same-item T U runs.tasks.fuel runs.tasks.control n f.fuel_left f.went_on went)
+          ∙ ap (λ i. (after_instr U (alone_at U i)).deed) same-count
+
+      by-calls : BothCalls T U (alone_value T n (latches.Reg 17)) (alone_value U m (latches.Reg 17)) (alone_at T n) (alone_at U m) → Led h g
+      by-calls (BothExit is other) = done-led h g (exit-both k kernel of_both alike f u is other)
+      by-calls (BothOut is other room free) = ready-led h g (out-both k kernel of_both tasks others number h g c d alike f u is other room free)
+      by-calls (BothFill is other room free) = done-led h g (out-full-both k kernel of_both alike f u is other room free)
+      by-calls (BothIn is other word given found given_too) =
+          ready-led h g (inputs tasks others number n m h g c d word found f u alike is other given given_too)
+      by-calls (BothRunOut is other none none_too) = done-led h g (tape-end-both k kernel of_both alike f u is other none none_too)
+      by-calls (BothYield is other) = ready-led h g (yield-both k kernel of_both tasks others number h g c d alike f u is other)
+      by-calls (BothBad same not0 not1 not2 not3) = done-led h g (bad-call-both k kernel of_both alike f u same not0 not1 not2 not3)
+
+      call-led : Led h g
+      call-led =
+          let a7 = alone_value T n (latches.Reg 17) in
+          let a0 = alone_value T n (latches.Reg 10) in
+          let b7 = alone_value U m (latches.Reg 17) in
+          let b0 = alone_value U m (latches.Reg 10) in
+          let s = alone_at T n in
+          let t = alone_at U m in
+          let deeds : (after_call T a7 a0 s).deed ≡ (after_call U b7 b0 t).deed =
+          sym (ap (λ (x : Executed). x.deed) f.serves) ∙ same-deed ∙ ap (λ (x : Executed). x.deed) u.serves in
+          by-calls (both-cases T U a7 b7 s t (after_call T a7 a0 s).deed (after_call U b7 b0 t).deed deeds (call-case T a7 a0 s) (call-case U b7 b0 t))
+
+    -- one mode, and one cause
+    one-mode : h.csrs.mode ≡ User → g.csrs.mode ≡ Machine → ⊥
+    one-mode e f =
+        let same : h.csrs.mode ≡ g.csrs.mode = csrs-agree (λ (x : CsrFile). x.mode) h.csrs g.csrs alike.csrs (λ x m. refl) in
+        let clash : User ≡ Machine = sym e ∙ same ∙ f in
+        absurd (cc clash)
+
+    other-mode : h.csrs.mode ≡ Machine → g.csrs.mode ≡ User → ⊥
+    other-mode e f =
+        let same : h.csrs.mode ≡ g.csrs.mode = csrs-agree (λ (x : CsrFile). x.mode) h.csrs g.csrs alike.csrs (λ x m. refl) in
+        let clash : Machine ≡ User = sym e ∙ same ∙ f in
+        absurd (cc clash)
+
+    one-cause : {n m cause reason : ℕ} → IsAtTrap tasks number n cause h c → IsAtTrap others number m reason g d → cause ≡ reason
+    one-cause trap second =
+        sym trap.mcause ∙ csrs-agree (λ (x : CsrFile). x.mcause) h.csrs g.csrs alike.csrs (λ x m. refl) ∙ second.mcause
+
+    -- After every outcome of both steps.
+    pub outcome-led : HaveAlikeRuns (task_of c.body) (task_of d.body) → IsUserOutcome tasks number h c → IsUserOutcome others number g d → Led h g
+    outcome-led runs (inl user) (inl used) = (0, record { start = inl (c, user); other = inl (d, used); alike = alike })
+    outcome-led runs (inl user) (inr (inl timer)) = absurd (one-mode user.user.mode timer.trap.mode)
+    outcome-led runs (inl user) (inr (inr (inl fuel))) = absurd (one-mode user.user.mode fuel.trap.mode)
+    outcome-led runs (inl user) (inr (inr (inr (inl fault)))) = absurd (one-mode user.user.mode fault.2.trap.mode)
+    outcome-led runs (inl user) (inr (inr (inr (inr call)))) = absurd (one-mode user.user.mode call.1.trap.mode)
+    outcome-led runs (inr (inl timer)) (inl used) = absurd (other-mode timer.trap.mode used.user.mode)
+    outcome-led runs (inr (inl timer)) (inr (inl later)) = ready-led h g (timer-both k kernel of_both tasks others number h g c d alike timer later)
+    outcome-led runs (inr (inl timer)) (inr (inr (inl fuel))) = let e = one-cause timer.trap fuel.trap in absurd (omega (arith, e))
+    outcome-led runs (inr (inl timer)) (inr (inr (inr (inl fault)))) =
+        let e = one-cause timer.trap fault.2.trap in let low = fault.2.is_low in absurd (omega (arith, e, low))
+    outcome-led runs (inr (inl timer)) (inr (inr (inr (inr call)))) = let e = one-cause timer.trap call.1.trap in absurd (omega (arith, e))
+    outcome-led runs (inr (inr (inl fuel))) (inl used) = absurd (other-mode fuel.trap.mode used.user.mode)
+    outcome-led runs (inr (inr (inl fuel))) (inr (inl timer)) = let e = one-cause fuel.trap timer.trap in absurd (omega (arith, e))
+    outcome-led runs (inr (inr (inl fuel))) (inr (inr (inl used))) = done-led h g (fuel-both k kernel of_both alike fuel used)
+    outcome-led runs (inr (inr (inl fuel))) (inr (inr (inr (inl fault)))) =
+        let e = one-cause fuel.trap fault.2.trap in let low = fault.2.is_low in absurd (omega (arith, e, low))
+    outcome-led runs (inr (inr (inl fuel))) (inr (inr (inr (inr call)))) = let e = one-cause fuel.trap call.1.trap in absurd (omega (arith, e))
+    outcome-led runs (inr (inr (inr (inl fault)))) (inl used) = absurd (other-mode fault.2.trap.mode used.user.mode)
+    outcome-led runs (inr (inr (inr (inl fault)))) (inr (inl timer)) =
+        let e = one-cause fault.2.trap timer.trap in let low = fault.2.is_low in absurd (omega (arith, e, low))
+    outcome-led runs (inr (inr (inr (inl fault)))) (inr (inr (inl fuel))) =
+        let e = one-cause fault.2.trap fuel.trap in let low = fault.2.is_low in absurd (omega (arith, e, low))
+    outcome-led runs (inr (inr (inr (inl fault)))) (inr (inr (inr (inl faults)))) =
+        done-led h g (fault-both k kernel of_both alike fault.2 faults.2 (one-cause fault.2.trap faults.2.trap))
+    outcome-led runs (inr (inr (inr (inl fault)))) (inr (inr (inr (inr call)))) =
+        let e = one-cause fault.2.trap call.1.trap in let low = fault.2.is_low in absurd (omega (arith, e, low))
+    outcome-led runs (inr (inr (inr (inr call)))) (inl used) = absurd (other-mode call.1.trap.mode used.user.mode)
+    outcome-led runs (inr (inr (inr (inr call)))) (inr (inl timer)) = let e = one-cause call.1.trap timer.trap in absurd (omega (arith, e))
+    outcome-led runs (inr (inr (inr (inr call)))) (inr (inr (inl fuel))) = let e = one-cause call.1.trap fuel.trap in absurd (omega (arith, e))
+    outcome-led runs (inr (inr (inr (inr call)))) (inr (inr (inr (inl fault)))) =
+        let e = one-cause call.1.trap fault.2.trap in let low = fault.2.is_low in absurd (omega (arith, e, low))
+    outcome-led runs (inr (inr (inr (inr call)))) (inr (inr (inr (inr called)))) = call-led call.0 called.0 call.1 called.1 runs

@@ -1,0 +1,4 @@
+pub mod AlikeHarts
+pub mod AlikeSteps
+pub mod AlikeCores
+pub mod Laws
