@@ -11,11 +11,11 @@ use Rattle.isa_model.specs.Effect.{Effect, Write, effect_of}
 use Rattle.isa_model.specs.TaskPlaces.{IsValidTask}
 use Rattle.isa_model.specs.Alone.{AloneState, code_word_at, is_data_address, is_privileged, operands_of, values_after, after_instr, after_call}
 use Rattle.hart_model.specs.declared.tag.Mode.TheVariants.{User}
+use Rattle.hart_model.specs.declared.tag.Tag.TheVariants.{Of}
 use Rattle.hart_model.specs.declared.calls.Did.TheVariants.{Ran, Trapped}
 use Rattle.hart_model.specs.declared.probe.Probe.{Probe}
 use Rattle.hart_model.specs.declared.tag.Cell.{Cell}
 use Rattle.hart_model.specs.Cells.{blank}
-use Rattle.hart_model.specs.Taint.{user_tag}
 use Rattle.hart_model.specs.Probes.{probe_of}
 use Rattle.hart_model.specs.Pmp.{task_pmp}
 use Rattle.hart_model.specs.Traps.{csrs_after_trap, interrupt_of}
@@ -123,7 +123,7 @@ written_value T s l = values_after (alone_effect T s).writes s.value l
 -- instruction didn't write it, on the hart or alone.
 abbrev pub IsOwnOrKept : Task → AloneState → HartState → ContextState → HartState → Latch → Type 0
 IsOwnOrKept T s h c g l =
-    (latch_cell g l ≡ Some (record { value = written_value T s l; tag = user_tag c.body.task_no c.body.count l }))
+    (latch_cell g l ≡ Some (record { value = written_value T s l; tag = Of c.body.task_no (c.body.count + 1) l }))
     ⊎ ((latch_cell g l ≡ latch_cell h l) × (written_value T s l ≡ s.value l))
 
 abbrev pub cell_or_blank : Option Cell → Cell
@@ -133,7 +133,7 @@ cell_or_blank (Some cell) = cell
 -- the entry of a write in user mode, from the cell that stood in the latch before the instruction
 abbrev pub user_entry : HartState → BodyState → Write → Probe
 user_entry h b w =
-    probe_of h.csrs.hart h.pc User w.to (cell_or_blank (latch_cell h w.to)) (record { value = w.value; tag = user_tag b.task_no b.count w.to })
+    probe_of h.csrs.hart h.pc User w.to (cell_or_blank (latch_cell h w.to)) (record { value = w.value; tag = Of b.task_no (b.count + 1) w.to })
 
 -- What an instruction in user mode writes: the values of the run alone, with their own tags; each write makes one entry, in order.
 pub record WritesOwn (T : Task) (s : AloneState) (h : HartState) (c : ContextState) : Type 0 where
