@@ -1,3 +1,8 @@
+-- Actions of a board, and tasks at boot.
+pub mod Lists
+pub mod Counts
+pub mod Moves
+-- Examples, and runs as events.
 mod TryBoard
 mod TryKernelWords
 mod TryRun
@@ -5,5 +10,6 @@ mod TryCore
 mod TryOrders
 mod TryExplained
 mod TryLowEquivalence
+mod TryLastPc
 mod TryInvariant
 mod Runs

@@ -45,6 +45,7 @@ tasks_alike = record {
   out_max = refl;
   tape_length = refl;
   control = refl;
+  last_pc = refl;
 }
 
 bundles_alike : AreAlike (loaded 7) (loaded 9)

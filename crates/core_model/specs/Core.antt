@@ -29,6 +29,9 @@ abbrev pub bodies_from : ℕ → List Task → List BodyState
 bodies_from task_no [] = []
 bodies_from task_no (task ∷ tasks) = fresh_body task_no task ∷ bodies_from (task_no + 1) tasks
 
+abbrev pub boot_bodies : Loaded → List BodyState
+boot_bodies loaded = bodies_from 0 loaded.tasks
+
 -- so many harts at boot, numbered from this one on, at the kernel's `take`
 abbrev pub harts_from : ℕ → ℕ → ℕ → List HartState
 harts_from number zero take = []
@@ -37,7 +40,7 @@ harts_from number (suc more) take = boot_hart number take ∷ harts_from (number
 -- the core of a loaded bundle at boot
 abbrev pub boot_core : Loaded → KernelCodeState → CoreState
 boot_core loaded kernel = record {
-  board = boot_board loaded.slots (bodies_from 0 loaded.tasks);
+  board = boot_board loaded.slots (boot_bodies loaded);
   harts = harts_from 0 loaded.harts kernel.take;
   log = [];
 }

@@ -11,3 +11,6 @@ pub mod Orders
 pub mod Explained
 pub mod LowEquivalence
 pub mod Invariant
+pub mod AlikeHarts
+pub mod Routines
+pub mod Moves

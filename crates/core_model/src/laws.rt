@@ -2,6 +2,7 @@
 
 ghost use Rattle.core_model.specs.Events.{CountsAreLengths};
 ghost use Rattle.core_model.specs.Loaded.{TasksAreApart};
+ghost use Rattle.core_model.specs.Moves.{ActionsMove, TasksBeginOwn};
 
 /// Runs stand for as many events, and for as many entries of an order, as the sum of their times says.
 pub fn counts_are_lengths()
@@ -11,4 +12,15 @@ pub fn counts_are_lengths()
 /// No address belongs to two tasks at their places.
 pub fn tasks_are_apart()
     ensures law { TasksAreApart }
+{}
+
+/// Queue actions move tasks and slots from place to place, and copy none: after a take or a give each task is in as many places of the
+/// board as before, and no slot in more.
+pub fn actions_move()
+    ensures law { ActionsMove }
+{}
+
+/// At boot each task has its own code, tape and limits.
+pub fn tasks_begin_own()
+    ensures law { TasksBeginOwn }
 {}
