@@ -15,7 +15,7 @@ use Rattle.abstract_run.specs.AbstractRun as run
 use Rattle.abstract_run.specs.Concretization.{Setting, IsSound, Denotes, AllDenote, RegsDenote, IsDenotedBy}
 use Rattle.abstract_run.specs.SymbolicPath.{PathState, PathStep, IsAsPathSays, TakesStep}
 use Rattle.abstract_run.specs.Writes.{IsDoneBy}
-use Rattle.abstract_run.specs.Ways.{IsSameTask, HoldsSame}
+use Rattle.core_model.specs.Routines.{IsSameTask, HoldsSame}
 use Rattle.abstract_run.proofs.Writes.{writes-denoted}
 use Rattle.abstract_run.proofs.Kept.{Keeps, writes-keep}
 

@@ -15,7 +15,7 @@ use Rattle.hart_model.specs.HartState.{HartState, hart_cell}
 use Rattle.hart_model.specs.Writes.{CellWrite, after_writes}
 use Rattle.hart_model.specs.MachineStep.{OperandCells, operand_cells, operand_values, by_reach, csr_reach, by_csrs, after_machine_effect, after_machine_writes}
 use Rattle.core_model.specs.Invariant.{AreCsrsSound}
-use Rattle.abstract_run.specs.AbstractCell.{AbstractCell, SlotAddress, PublicAny, PublicNumber, TaskReg, OldSlotWord, TapeWord, AnyTagged}
+use Rattle.abstract_run.specs.AbstractCell.{AbstractCell, SlotAddress, PublicAny, PublicNumber, TaskReg, OldSlotWord, GivenCell, AnyTagged}
 use Rattle.abstract_run.specs.AbstractCell as abstract
 use Rattle.abstract_run.specs.AbstractEffect.{reg_cell}
 use Rattle.abstract_run.specs.Concretization.{Setting, Denotes}
@@ -173,7 +173,7 @@ module _ (s : Setting) (number base : ℕ) (p : PathState) (h : HartState) (high
   by-cell rs1 csr true PublicAny step ok is e = absurd (cc e)
   by-cell rs1 csr true (TaskReg number) step ok is e = absurd (cc e)
   by-cell rs1 csr true (OldSlotWord index) step ok is e = absurd (cc e)
-  by-cell rs1 csr true TapeWord step ok is e = absurd (cc e)
+  by-cell rs1 csr true GivenCell step ok is e = absurd (cc e)
   by-cell rs1 csr true AnyTagged step ok is e = absurd (cc e)
   by-cell rs1 csr false a step ok is e = absurd (cc e)
 

@@ -6,7 +6,7 @@ use Rattle.hart_model.specs.declared.tag.Cell.{Cell}
 use Rattle.hart_model.specs.declared.tag.Tag.{Tag}
 use Rattle.hart_model.specs.declared.tag.Tag.TheVariants.{Public}
 use Rattle.hart_model.specs.Taint.{mixture_of}
-use Rattle.abstract_run.specs.AbstractCell.{AbstractCell, Zero, SlotAddress, PublicAny, PublicNumber, TaskReg, OldSlotWord, TapeWord, AnyTagged, is_tagged, is_zero, is_number}
+use Rattle.abstract_run.specs.AbstractCell.{AbstractCell, Zero, SlotAddress, PublicAny, PublicNumber, TaskReg, OldSlotWord, GivenCell, AnyTagged, is_tagged, is_zero, is_number}
 use Rattle.abstract_run.specs.AbstractEffect.{stand_in, mixed_cell}
 use Rattle.abstract_run.specs.Concretization.{Setting, Denotes}
 use Rattle.abstract_run.proofs.OneWrite.{denoted-public}
@@ -18,7 +18,7 @@ any-parts PublicAny xs e = (refl, e)
 any-parts (PublicNumber value) xs e = (refl, e)
 any-parts (TaskReg number) xs e = absurd (cc e)
 any-parts (OldSlotWord index) xs e = absurd (cc e)
-any-parts TapeWord xs e = absurd (cc e)
+any-parts GivenCell xs e = absurd (cc e)
 any-parts AnyTagged xs e = absurd (cc e)
 
 numbers-parts : (x : AbstractCell) (xs : List AbstractCell) → list_all is_number (x ∷ xs) ≡ true → (is_number x ≡ true) × (list_all is_number xs ≡ true)
@@ -28,7 +28,7 @@ numbers-parts PublicAny xs e = absurd (cc e)
 numbers-parts (PublicNumber value) xs e = (refl, e)
 numbers-parts (TaskReg number) xs e = absurd (cc e)
 numbers-parts (OldSlotWord index) xs e = absurd (cc e)
-numbers-parts TapeWord xs e = absurd (cc e)
+numbers-parts GivenCell xs e = absurd (cc e)
 numbers-parts AnyTagged xs e = absurd (cc e)
 
 -- cells that are known as Zero are known numbers
@@ -40,7 +40,7 @@ zeros-numbers (PublicAny ∷ xs) e = absurd (cc e)
 zeros-numbers (PublicNumber value ∷ xs) e = absurd (cc e)
 zeros-numbers (TaskReg number ∷ xs) e = absurd (cc e)
 zeros-numbers (OldSlotWord index ∷ xs) e = absurd (cc e)
-zeros-numbers (TapeWord ∷ xs) e = absurd (cc e)
+zeros-numbers (GivenCell ∷ xs) e = absurd (cc e)
 zeros-numbers (AnyTagged ∷ xs) e = absurd (cc e)
 
 module _ (s : Setting) where
@@ -52,7 +52,7 @@ module _ (s : Setting) where
   number-value PublicAny c e d = absurd (cc e)
   number-value (TaskReg number) c e d = absurd (cc e)
   number-value (OldSlotWord index) c e d = absurd (cc e)
-  number-value TapeWord c e d = absurd (cc e)
+  number-value GivenCell c e d = absurd (cc e)
   number-value AnyTagged c e d = absurd (cc e)
 
   -- a value that is computed of several, by the three questions that are asked of them

@@ -9,7 +9,7 @@ use Rattle.hart_model.specs.Csrs.{CsrFile}
 use Rattle.hart_model.specs.Context.{ContextState}
 use Rattle.hart_model.specs.HartState.{HartState, held_words, held_with_word, hart_with_cell}
 use Rattle.hart_model.specs.Writes.{CellWrite, after_writes}
-use Rattle.abstract_run.specs.AbstractCell.{AbstractCell, AbstractState, SlotAddress, PublicAny, PublicNumber, TaskReg, OldSlotWord, TapeWord, AnyTagged, is_zero, abstract_cell_at}
+use Rattle.abstract_run.specs.AbstractCell.{AbstractCell, AbstractState, SlotAddress, PublicAny, PublicNumber, TaskReg, OldSlotWord, GivenCell, AnyTagged, is_zero, abstract_cell_at}
 use Rattle.abstract_run.specs.AbstractCell as abstract
 use Rattle.abstract_run.specs.AbstractEffect.{AbstractWrite}
 use Rattle.abstract_run.specs.AbstractRun.{is_allowed}
@@ -51,7 +51,7 @@ zero-blank s PublicAny c e d = absurd (cc e)
 zero-blank s (PublicNumber value) c e d = absurd (cc e)
 zero-blank s (TaskReg number) c e d = absurd (cc e)
 zero-blank s (OldSlotWord index) c e d = absurd (cc e)
-zero-blank s TapeWord c e d = absurd (cc e)
+zero-blank s GivenCell c e d = absurd (cc e)
 zero-blank s AnyTagged c e d = absurd (cc e)
 
 -- one write

@@ -2,7 +2,7 @@
 use Rattle.std.proofs.Common.{◌≡◌, ℕ, Some, ap, ◌∙◌}
 use Rattle.hart_model.specs.declared.tag.Cell.{Cell}
 use Rattle.hart_model.specs.Context.{slot_address}
-use Rattle.abstract_run.specs.AbstractCell.{AbstractCell, SlotAddress, PublicAny, PublicNumber, TaskReg, OldSlotWord, TapeWord, AnyTagged}
+use Rattle.abstract_run.specs.AbstractCell.{AbstractCell, SlotAddress, PublicAny, PublicNumber, TaskReg, OldSlotWord, GivenCell, AnyTagged}
 use Rattle.abstract_run.specs.AbstractCell as abstract
 use Rattle.abstract_run.specs.Concretization.{Setting, Denotes, number_of}
 
@@ -16,5 +16,5 @@ number-is s PublicAny c v e d = absurd (cc e)
 number-is s (PublicNumber value) c v e d = ap (λ x. x.value) d ∙ some-is value v e
 number-is s (TaskReg number) c v e d = ap (λ x. x.value) d.2 ∙ some-is (s.task_regs number).value v e
 number-is s (OldSlotWord index) c v e d = ap (λ x. x.value) d.2 ∙ some-is (s.old_words index).value v e
-number-is s TapeWord c v e d = ap (λ x. x.value) d ∙ some-is s.tape_word.value v e
+number-is s GivenCell c v e d = ap (λ x. x.value) d ∙ some-is s.given_cell.value v e
 number-is s AnyTagged c v e d = absurd (cc e)

@@ -35,6 +35,9 @@ pub mod PathParts
 pub mod Paths
 pub mod Stand
 pub mod ComputedPaths
+-- Runs of a kernel's part.
+pub mod PartSteps
+pub mod PartRuns
 -- Examples.
 mod TryRoutines
 mod TrySymbolicPath

@@ -14,7 +14,7 @@ use Rattle.hart_model.specs.Cells.{Cells, blank, with_cell}
 use Rattle.hart_model.specs.Context.{ContextState}
 use Rattle.hart_model.specs.HartState.{HartState, cells_of, hart_cell, hart_with_cell}
 use Rattle.core_model.specs.Invariant.{IsAsTagged, IsTruthful, IsOwn}
-use Rattle.abstract_run.specs.AbstractCell.{AbstractCell, AbstractState, SlotAddress, PublicAny, PublicNumber, TaskReg, OldSlotWord, TapeWord, AnyTagged, is_tagged, is_zero, abstract_cell_at}
+use Rattle.abstract_run.specs.AbstractCell.{AbstractCell, AbstractState, SlotAddress, PublicAny, PublicNumber, TaskReg, OldSlotWord, GivenCell, AnyTagged, is_tagged, is_zero, abstract_cell_at}
 use Rattle.abstract_run.specs.AbstractCell as abstract
 use Rattle.abstract_run.specs.Concretization.{Setting, IsSound, Denotes, AllDenote, RegsDenote, IsDenotedBy}
 
@@ -45,7 +45,7 @@ denoted-truthful s ok (TaskReg number) c d =
     let own = own-truthful s.tasks s.task_no s.task s.count (latches.Reg number) (s.task_regs number) ok.is_task (ok.regs number d.0 d.1) in
     truthful-as s.tasks c (s.task_regs number) d.2 own
 denoted-truthful s ok (OldSlotWord index) c d = truthful-as s.tasks c (s.old_words index) d.2 (ok.words index d.0 d.1)
-denoted-truthful s ok TapeWord c d = truthful-as s.tasks c s.tape_word d ok.tape_word
+denoted-truthful s ok GivenCell c d = truthful-as s.tasks c s.given_cell d ok.given_cell
 denoted-truthful s ok AnyTagged c d = d
 
 -- a cell that isn't known as tagged is public
@@ -56,7 +56,7 @@ denoted-public s PublicAny c e d = d
 denoted-public s (PublicNumber value) c e d = ap (λ x. x.tag) d
 denoted-public s (TaskReg number) c e d = absurd (cc e)
 denoted-public s (OldSlotWord index) c e d = absurd (cc e)
-denoted-public s TapeWord c e d = absurd (cc e)
+denoted-public s GivenCell c e d = absurd (cc e)
 denoted-public s AnyTagged c e d = absurd (cc e)
 
 -- an element of cells that are denoted, and these with one element changed

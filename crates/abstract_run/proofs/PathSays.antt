@@ -12,7 +12,7 @@ use Rattle.core_model.specs.Invariant.{IsTruthful, IsHartSound}
 use Rattle.abstract_run.specs.AbstractCell.{abstract_cell_at}
 use Rattle.abstract_run.specs.Concretization.{Setting, IsSound}
 use Rattle.abstract_run.specs.SymbolicPath.{PathState, IsAsPathSays}
-use Rattle.abstract_run.specs.Ways.{ticked_if}
+use Rattle.core_model.specs.Routines.{ticked_if}
 use Rattle.abstract_run.proofs.OneWrite.{denoted-truthful, cell-denoted, IsSpokenOf}
 use Rattle.abstract_run.proofs.Ways.{csrs-tick}
 

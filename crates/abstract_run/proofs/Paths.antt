@@ -14,7 +14,8 @@ use Rattle.abstract_run.specs.AbstractCell.{AbstractState}
 use Rattle.abstract_run.specs.AbstractRun as run
 use Rattle.abstract_run.specs.Concretization.{Setting, IsSound}
 use Rattle.abstract_run.specs.SymbolicPath.{PathState, PathStep, Path, AreSo, path_step, path_from, HasInstrAt, StandAt, IsAsPathSays}
-use Rattle.abstract_run.specs.Ways.{ticked_if, GoesOnTo, Leads}
+use Rattle.core_model.specs.Routines.{ticked_if}
+use Rattle.abstract_run.specs.Ways.{GoesOnTo, Leads}
 use Rattle.abstract_run.specs.Laws.{StepsAreTaken, PathsLead}
 use Rattle.abstract_run.proofs.Ways.{goes-map}
 use Rattle.abstract_run.proofs.PathSays.{path-says-ticked, path-sound}

@@ -20,7 +20,7 @@ use Rattle.hart_model.specs.Ports.{SideEffect, Nothing, AdvancesTape, Passes, po
 use Rattle.hart_model.specs.HartState.{HartState, held_words}
 use Rattle.hart_model.specs.Writes.{CellWrite, cell_writes, after_writes}
 use Rattle.hart_model.specs.MachineStep.{OperandCells, operand_cells, operand_values, operand_tag, machine_bases, target_of, load_reach, load_by_port, by_reach, held_after_side, after_machine_effect, after_machine_writes}
-use Rattle.abstract_run.specs.AbstractCell.{AbstractCell, AbstractState, PublicNumber, TapeWord}
+use Rattle.abstract_run.specs.AbstractCell.{AbstractCell, AbstractState, PublicNumber, GivenCell}
 use Rattle.abstract_run.specs.AbstractEffect.{AbstractWrite}
 use Rattle.abstract_run.specs.Concretization.{Setting, IsSound, Denotes}
 use Rattle.abstract_run.specs.Writes.{WritesDenote}
@@ -85,27 +85,27 @@ module _ (s : Setting) (number base : ℕ) (p : PathState) (h : HartState) (ok :
       }
 
   -- the word of the tape
-  tape-passes : slice_get p.held.body.tape p.held.body.tape_at ≡ Some s.tape_word.value
-      → s.tape_word.tag ≡ Of p.held.body.task_no p.held.body.count (latches.Reg 10)
-      → port_load Tape h.held ≡ Passes s.tape_word AdvancesTape
+  tape-passes : slice_get p.held.body.tape p.held.body.tape_at ≡ Some s.given_cell.value
+      → s.given_cell.tag ≡ Of p.held.body.task_no p.held.body.count (latches.Reg 10)
+      → port_load Tape h.held ≡ Passes s.given_cell AdvancesTape
   unfolding context
   tape-passes word tag =
       let holds = ap (λ held. port_load Tape held) says.held in
       let gives = ap (λ given. tape_answer context given) word in
-      let tagged = ap (λ (t : Tag). Passes (record { value = s.tape_word.value; tag = t }) AdvancesTape) (sym tag) in
+      let tagged = ap (λ (t : Tag). Passes (record { value = s.given_cell.value; tag = t }) AdvancesTape) (sym tag) in
       holds ∙ gives ∙ tagged
 
   -- what a port gives
   by-port : (rd : ℕ) (imm : ℤ) (port : Port) (step : PathStep) → port_at (address 0 imm) ≡ Some port
-      → port_load_step p rd 0 (address 0 imm) s.tape_word (Some port) ≡ Some step → AreSo step.asked → TakesStep s number base p step h (Load loads.W rd 0 imm)
+      → port_load_step p rd 0 (address 0 imm) s.given_cell (Some port) ≡ Some step → AreSo step.asked → TakesStep s number base p step h (Load loads.W rd 0 imm)
   unfolding context
   by-port rd imm Tape step found e so =
-      let done : PathStep = record (goes_on p (load_writes p.cells rd 0 (address 0 imm) TapeWord))
-      { held = held_after_side AdvancesTape p.held; asked = GivesWord p.held s.tape_word ∷ [] } in
+      let done : PathStep = record (goes_on p (load_writes p.cells rd 0 (address 0 imm) GivenCell))
+      { held = held_after_side AdvancesTape p.held; asked = GivesWord p.held s.given_cell ∷ [] } in
       let same : done ≡ step = cc e in
       let P : PathStep → Type 0 = λ x. AreSo x.asked → TakesStep s number base p x h (Load loads.W rd 0 imm) in
-      subst P same (λ is. load-passes rd imm Tape TapeWord s.tape_word AdvancesTape (held_after_side AdvancesTape p.held)
-      (GivesWord p.held s.tape_word ∷ []) found (tape-passes is.0.0 is.0.1) refl refl) so
+      subst P same (λ is. load-passes rd imm Tape GivenCell s.given_cell AdvancesTape (held_after_side AdvancesTape p.held)
+      (GivesWord p.held s.given_cell ∷ []) found (tape-passes is.0.0 is.0.1) refl refl) so
   by-port rd imm TapeLeft step found e so =
       let left : ℕ = length p.held.body.tape - p.held.body.tape_at in
       let done : PathStep = goes_on p (load_writes p.cells rd 0 (address 0 imm) (PublicNumber left)) in
@@ -128,10 +128,10 @@ module _ (s : Setting) (number base : ℕ) (p : PathState) (h : HartState) (ok :
   by-port rd imm Ack step found e so = absurd (cc e)
 
   pub port-load-taken : (rd rs1 : ℕ) (imm : ℤ) (port : Port) (step : PathStep) → port_from rs1 imm ≡ Some port
-      → port_load_step p rd rs1 (address 0 imm) s.tape_word (Some port) ≡ Some step → AreSo step.asked
+      → port_load_step p rd rs1 (address 0 imm) s.given_cell (Some port) ≡ Some step → AreSo step.asked
       → TakesStep s number base p step h (Load loads.W rd rs1 imm)
   port-load-taken rd rs1 imm port step there =
       let from = from-x0 rs1 imm port there in
-      let P : ℕ → Type 0 = λ r. port_load_step p rd r (address 0 imm) s.tape_word (Some port) ≡ Some step
+      let P : ℕ → Type 0 = λ r. port_load_step p rd r (address 0 imm) s.given_cell (Some port) ≡ Some step
       → AreSo step.asked → TakesStep s number base p step h (Load loads.W rd r imm) in
       subst P (sym from.0) (by-port rd imm port step from.1)

@@ -10,7 +10,7 @@ use Rattle.hart_model.specs.declared.tag.Cell.{Cell}
 use Rattle.hart_model.specs.Cells.{Bases, zero_address, index_in, place_of}
 use Rattle.hart_model.specs.Context.{ContextState, slot_address, slot_len}
 use Rattle.hart_model.specs.MachineStep.{machine_bases}
-use Rattle.abstract_run.specs.AbstractCell.{AbstractCell, Zero, SlotAddress, PublicAny, PublicNumber, TaskReg, OldSlotWord, TapeWord, AnyTagged}
+use Rattle.abstract_run.specs.AbstractCell.{AbstractCell, Zero, SlotAddress, PublicAny, PublicNumber, TaskReg, OldSlotWord, GivenCell, AnyTagged}
 use Rattle.abstract_run.specs.AbstractEffect.{stand_in, stand_in_bases, place_from}
 use Rattle.abstract_run.specs.Concretization.{Setting, IsSound, Denotes}
 use Rattle.abstract_run.proofs.OneWrite.{IsSpokenOf}
@@ -104,5 +104,5 @@ reached s ok may_reach held c is_held is_slot SlotAddress cell d imm place e =
 reached s ok may_reach held c is_held is_slot PublicAny cell d imm place e = absurd (cc e)
 reached s ok may_reach held c is_held is_slot (TaskReg number) cell d imm place e = absurd (cc e)
 reached s ok may_reach held c is_held is_slot (OldSlotWord index) cell d imm place e = absurd (cc e)
-reached s ok may_reach held c is_held is_slot TapeWord cell d imm place e = absurd (cc e)
+reached s ok may_reach held c is_held is_slot GivenCell cell d imm place e = absurd (cc e)
 reached s ok may_reach held c is_held is_slot AnyTagged cell d imm place e = absurd (cc e)

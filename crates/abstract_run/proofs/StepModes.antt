@@ -16,7 +16,7 @@ use Rattle.hart_model.specs.declared.port.Port.TheVariants.{Out, Tape, TapeLeft,
 use Rattle.hart_model.specs.Csrs.{CsrFile, with_public_csr, mepc, mcause, is_pmpaddr}
 use Rattle.hart_model.specs.declared.tag.Cell.{Cell}
 use Rattle.hart_model.specs.Context.{pc_word}
-use Rattle.abstract_run.specs.AbstractCell.{AbstractCell, Zero, SlotAddress, PublicAny, PublicNumber, TaskReg, OldSlotWord, TapeWord, AnyTagged, is_tagged}
+use Rattle.abstract_run.specs.AbstractCell.{AbstractCell, Zero, SlotAddress, PublicAny, PublicNumber, TaskReg, OldSlotWord, GivenCell, AnyTagged, is_tagged}
 use Rattle.abstract_run.specs.AbstractEffect.{AbstractWrite, reg_cell, abstract_effect}
 use Rattle.abstract_run.specs.Concretization.{Setting, number_of}
 use Rattle.abstract_run.specs.SymbolicPath.{PathState, PathStep, path_step}
@@ -86,7 +86,7 @@ module _ (p : PathState) where
 
   load-mode : (may_reach : ℕ → Bool) (s : Setting) (rd rs1 : ℕ) (imm : ℤ) (at : ℕ) (o : Option Port) → IsKept p (paths.load_step may_reach s p rd rs1 imm at o)
   load-mode may_reach s rd rs1 imm at None = plain-mode (abstract_effect may_reach p.cells (Load loads.W rd rs1 imm))
-  load-mode may_reach s rd rs1 imm at (Some port) = load-port-mode rd rs1 at s.tape_word (Some port)
+  load-mode may_reach s rd rs1 imm at (Some port) = load-port-mode rd rs1 at s.given_cell (Some port)
 
   store-mode : (may_reach : ℕ → Bool) (s : Setting) (rs2 rs1 : ℕ) (imm : ℤ) (at : ℕ) (o : Option Port) →
       IsKept p (paths.store_step may_reach s p rs2 rs1 imm at o)
@@ -112,7 +112,7 @@ module _ (p : PathState) where
   write-mode rs1 csr true PublicAny = tt
   write-mode rs1 csr true (TaskReg number) = tt
   write-mode rs1 csr true (OldSlotWord index) = tt
-  write-mode rs1 csr true TapeWord = tt
+  write-mode rs1 csr true GivenCell = tt
   write-mode rs1 csr true AnyTagged = tt
   write-mode rs1 csr false cell = tt
 

@@ -6,7 +6,8 @@ use Rattle.hart_model.specs.HartState.{HartState, tick_of}
 use Rattle.hart_model.specs.HartStep.{hart_step}
 use Rattle.hart_model.specs.StepResult.{StepResult}
 use Rattle.core_model.specs.Invariant.{AreCsrsSound, IsHartSound, IsUserCase, entries_held}
-use Rattle.abstract_run.specs.Ways.{ticked_if, HoldsSame, GoesOnTo, Leads}
+use Rattle.core_model.specs.Routines.{ticked_if, HoldsSame}
+use Rattle.abstract_run.specs.Ways.{GoesOnTo, Leads}
 
 -- a tick after a tick changes nothing
 pub tick-ticked : (ticked : Bool) (h : HartState) → ticked_if ticked (tick_of h) ≡ tick_of h

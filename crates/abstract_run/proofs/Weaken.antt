@@ -4,7 +4,7 @@ use Rattle.std.proofs.lemmas.Bool.{eqb-true, not-true, and_parts}
 use Rattle.hart_model.specs.declared.tag.Cell.{Cell}
 use Rattle.hart_model.specs.Cells.{Cells}
 use Rattle.hart_model.specs.HartState.{HartState, cells_of}
-use Rattle.abstract_run.specs.AbstractCell.{AbstractCell, Zero, SlotAddress, PublicAny, PublicNumber, TaskReg, OldSlotWord, TapeWord, AnyTagged, AbstractState, is_tagged}
+use Rattle.abstract_run.specs.AbstractCell.{AbstractCell, Zero, SlotAddress, PublicAny, PublicNumber, TaskReg, OldSlotWord, GivenCell, AnyTagged, AbstractState, is_tagged}
 use Rattle.abstract_run.specs.Concretization.{Setting, IsSound, Denotes, AllDenote, RegsDenote, IsDenotedBy}
 use Rattle.abstract_run.specs.SymbolicPath.{PathState, IsAsPathSays}
 use Rattle.abstract_run.proofs.OneWrite.{denoted-truthful, denoted-public}
@@ -20,7 +20,7 @@ is_weaker (PublicNumber value) (PublicNumber other) = value == other
 is_weaker Zero (PublicNumber other) = 0 == other
 is_weaker (TaskReg number) (TaskReg other) = number == other
 is_weaker (OldSlotWord index) (OldSlotWord other) = index == other
-is_weaker TapeWord TapeWord = true
+is_weaker GivenCell GivenCell = true
 is_weaker cell other = false
 
 -- the same of the first ones of two lists, which end together if they end there
@@ -77,7 +77,7 @@ module _ (s : Setting) (ok : IsSound s) where
   weaker-cell Zero (PublicNumber other) c e d = as-number 0 other (λ n. Denotes s (PublicNumber n) c) e d
   weaker-cell (TaskReg number) (TaskReg other) c e d = as-number number other (λ n. Denotes s (TaskReg n) c) e d
   weaker-cell (OldSlotWord index) (OldSlotWord other) c e d = as-number index other (λ n. Denotes s (OldSlotWord n) c) e d
-  weaker-cell TapeWord TapeWord c e d = d
+  weaker-cell GivenCell GivenCell c e d = d
   weaker-cell a b c e d = absurd (cc e)
 
   -- and lists of cells, where the rest of the list is the same

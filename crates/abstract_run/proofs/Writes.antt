@@ -15,7 +15,7 @@ use Rattle.hart_model.specs.HartState.{HartState, cells_of, bases_of, hart_cell,
 use Rattle.hart_model.specs.Writes.{CellWrite, probe_of_write, after_writes}
 use Rattle.core_model.specs.Explained.{IsExplained}
 use Rattle.core_model.specs.Invariant.{IsAsTagged}
-use Rattle.abstract_run.specs.AbstractCell.{AbstractCell, AbstractState, SlotAddress, PublicAny, PublicNumber, TaskReg, OldSlotWord, TapeWord, AnyTagged, is_tagged, is_zero, abstract_cell_at}
+use Rattle.abstract_run.specs.AbstractCell.{AbstractCell, AbstractState, SlotAddress, PublicAny, PublicNumber, TaskReg, OldSlotWord, GivenCell, AnyTagged, is_tagged, is_zero, abstract_cell_at}
 use Rattle.abstract_run.specs.AbstractCell as abstract
 use Rattle.abstract_run.specs.AbstractEffect.{AbstractWrite}
 use Rattle.abstract_run.specs.AbstractRun.{is_allowed, if_allowed}
@@ -50,7 +50,7 @@ zero-public PublicAny e = absurd (cc e)
 zero-public (PublicNumber value) e = absurd (cc e)
 zero-public (TaskReg number) e = absurd (cc e)
 zero-public (OldSlotWord index) e = absurd (cc e)
-zero-public TapeWord e = absurd (cc e)
+zero-public GivenCell e = absurd (cc e)
 zero-public AnyTagged e = absurd (cc e)
 
 allowed-side : (place : Place) (old new : AbstractCell) → is_allowed place old new ≡ true → (is_tagged old ≡ false) ⊎ (is_tagged new ≡ false)

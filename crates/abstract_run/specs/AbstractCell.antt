@@ -15,7 +15,7 @@ pub data AbstractCell : Type 0 where
   PublicNumber : (value : ℕ) → AbstractCell
   TaskReg : (number : ℕ) → AbstractCell
   OldSlotWord : (index : ℕ) → AbstractCell
-  TapeWord : AbstractCell
+  GivenCell : AbstractCell
   AnyTagged : AbstractCell
 
 abbrev pub is_tagged : AbstractCell → Bool
@@ -25,7 +25,7 @@ is_tagged PublicAny = false
 is_tagged (PublicNumber value) = false
 is_tagged (TaskReg number) = true
 is_tagged (OldSlotWord index) = true
-is_tagged TapeWord = true
+is_tagged GivenCell = true
 is_tagged AnyTagged = true
 
 -- whether the number of the cell is known

@@ -8,7 +8,7 @@ use Rattle.hart_model.specs.Cells.{Cells, blank}
 use Rattle.hart_model.specs.Csrs.{public}
 use Rattle.hart_model.specs.Context.{slot_address}
 use Rattle.core_model.specs.Invariant.{IsTruthful, IsOwn}
-use Rattle.abstract_run.specs.AbstractCell.{AbstractCell, AbstractState, Zero, SlotAddress, PublicAny, PublicNumber, TaskReg, OldSlotWord, TapeWord, AnyTagged}
+use Rattle.abstract_run.specs.AbstractCell.{AbstractCell, AbstractState, Zero, SlotAddress, PublicAny, PublicNumber, TaskReg, OldSlotWord, GivenCell, AnyTagged}
 
 -- The tasks of the bundle; the task at hand with its number, how many instructions it has executed and its slot; and, as they were at
 -- the start, the cells of its registers and the words of the slot, and the cell that its tape gives next.
@@ -20,7 +20,7 @@ pub record Setting : Type 0 where
   pub slot : ℕ
   pub task_regs : ℕ → Cell
   pub old_words : ℕ → Cell
-  pub tape_word : Cell
+  pub given_cell : Cell
 
 -- what holds at the start: the cells of the registers are the task's own, and the old words of the slot and the tape's say the truth
 pub record IsSound (s : Setting) : Type 0 where
@@ -28,7 +28,7 @@ pub record IsSound (s : Setting) : Type 0 where
   pub is_task : slice_get s.tasks s.task_no ≡ Some s.task
   pub regs : (number : ℕ) → 1 ≤ number → number < 32 → IsOwn s.task_no s.task s.count (Reg number) (s.task_regs number)
   pub words : (index : ℕ) → 1 ≤ index → index < 32 → IsTruthful s.tasks (s.old_words index)
-  pub tape_word : IsTruthful s.tasks s.tape_word
+  pub given_cell : IsTruthful s.tasks s.given_cell
 
 -- What an abstract cell says of a cell. The task's register and the slot's old word are the very cells of the start.
 abbrev pub Denotes : Setting → AbstractCell → Cell → Type 0
@@ -38,7 +38,7 @@ Denotes s PublicAny c = c.tag ≡ Public
 Denotes s (PublicNumber value) c = c ≡ public value
 Denotes s (TaskReg number) c = (1 ≤ number) × (number < 32) × (c ≡ s.task_regs number)
 Denotes s (OldSlotWord index) c = (1 ≤ index) × (index < 32) × (c ≡ s.old_words index)
-Denotes s TapeWord c = c ≡ s.tape_word
+Denotes s GivenCell c = c ≡ s.given_cell
 Denotes s AnyTagged c = IsTruthful s.tasks c
 
 -- abstract cells in a row say so of as many cells
@@ -76,5 +76,5 @@ number_of s PublicAny = None
 number_of s (PublicNumber value) = Some value
 number_of s (TaskReg number) = Some (s.task_regs number).value
 number_of s (OldSlotWord index) = Some (s.old_words index).value
-number_of s TapeWord = Some s.tape_word.value
+number_of s GivenCell = Some s.given_cell.value
 number_of s AnyTagged = None

@@ -29,7 +29,7 @@ use Rattle.hart_model.specs.HartState.{HartState, cells_of, held_words}
 use Rattle.hart_model.specs.Writes.{CellWrite, after_writes}
 use Rattle.hart_model.specs.MachineStep.{kernel_word_at, held_after_side, machine_instr_step, after_machine_writes}
 use Rattle.core_model.specs.Invariant.{AreCsrsSound, IsTruthful}
-use Rattle.abstract_run.specs.AbstractCell.{AbstractCell, PublicAny, PublicNumber, TapeWord, AnyTagged, AbstractState, is_tagged}
+use Rattle.abstract_run.specs.AbstractCell.{AbstractCell, PublicAny, PublicNumber, GivenCell, AnyTagged, AbstractState, is_tagged}
 use Rattle.abstract_run.specs.AbstractEffect.{AbstractWrite, reg_cell, abstract_effect}
 use Rattle.abstract_run.specs.AbstractRun as abstract
 use Rattle.abstract_run.specs.Concretization.{Setting, IsDenotedBy, number_of}
@@ -144,7 +144,7 @@ store_writes a rs2 rs1 at =
 -- what a port gives to a load
 abbrev pub port_load_step : PathState → ℕ → ℕ → ℕ → Cell → Option Port → Option PathStep
 port_load_step p rd rs1 at word (Some Tape) =
-    Some (record (goes_on p (load_writes p.cells rd rs1 at TapeWord)) { held = held_after_side AdvancesTape p.held; asked = GivesWord p.held word ∷ [] })
+    Some (record (goes_on p (load_writes p.cells rd rs1 at GivenCell)) { held = held_after_side AdvancesTape p.held; asked = GivesWord p.held word ∷ [] })
 port_load_step p rd rs1 at word (Some TapeLeft) =
     Some (goes_on p (load_writes p.cells rd rs1 at (PublicNumber (length p.held.body.tape - p.held.body.tape_at))))
 port_load_step p rd rs1 at word (Some OutLeft) =
@@ -185,7 +185,7 @@ port_store_step s p writes cell value port = None
 -- A load or a store from x0 on reaches a port where its address is one, and else a word.
 abbrev pub load_step : (ℕ → Bool) → Setting → PathState → ℕ → ℕ → ℤ → ℕ → Option Port → Option PathStep
 load_step may_reach s p rd rs1 imm at None = plain_step p (abstract_effect may_reach p.cells (Load loads.W rd rs1 imm))
-load_step may_reach s p rd rs1 imm at (Some port) = port_load_step p rd rs1 at s.tape_word (Some port)
+load_step may_reach s p rd rs1 imm at (Some port) = port_load_step p rd rs1 at s.given_cell (Some port)
 
 abbrev pub store_step : (ℕ → Bool) → Setting → PathState → ℕ → ℕ → ℤ → ℕ → Option Port → Option PathStep
 store_step may_reach s p rs2 rs1 imm at None = plain_step p (abstract_effect may_reach p.cells (Store stores.W rs2 rs1 imm))

@@ -1,30 +1,14 @@
 -- Where the steps of a hart lead, whatever ticks come between them (this project's own).
-use Rattle.std.specs.Prelude.{◌≡◌, ⊤, ℕ, zero, suc, ◌⊎◌, Bool, true, false, List, All, Option, Some, None}
+use Rattle.std.specs.Prelude.{◌≡◌, ℕ, zero, suc, ◌⊎◌, Bool, List, All}
 use Rattle.isa_model.specs.declared.task.Task.{Task}
 use Rattle.hart_model.specs.declared.calls.Did.{Did}
 use Rattle.hart_model.specs.declared.probe.Probe.{Probe}
-use Rattle.hart_model.specs.Context.{ContextState}
-use Rattle.hart_model.specs.HartState.{HartState, tick_of}
+use Rattle.hart_model.specs.HartState.{HartState}
 use Rattle.hart_model.specs.StepResult.{StepResult, Steps}
 use Rattle.hart_model.specs.HartStep.{hart_step}
 use Rattle.core_model.specs.Explained.{IsExplained}
 use Rattle.core_model.specs.Invariant.{IsHartSound}
-
--- a hart, with a tick before its next step or without
-abbrev pub ticked_if : Bool → HartState → HartState
-ticked_if true h = tick_of h
-ticked_if false h = h
-
--- what is held is the same task in the same slot, at the same count
-pub record IsSameTask (c d : ContextState) : Type 0 where
-  pub task_no : d.body.task_no ≡ c.body.task_no
-  pub slot : d.slot ≡ c.slot
-  pub count : d.body.count ≡ c.body.count
-
-abbrev pub HoldsSame : Option ContextState → Option ContextState → Type 0
-HoldsSame None None = ⊤
-HoldsSame (Some c) (Some d) = IsSameTask c d
-HoldsSame before after = ⊥
+use Rattle.core_model.specs.Routines.{ticked_if, HoldsSame}
 
 -- A step goes on, with explained entries; the hart holds the same, and stands there.
 pub record GoesOnTo (tasks : List Task) (h : HartState) (There : HartState → Type 0) (step : StepResult) : Type 0 where
