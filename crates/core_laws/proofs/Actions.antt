@@ -16,7 +16,7 @@ use Rattle.core_model.specs.Invariant.{entries_held}
 use Rattle.core_laws.specs.KernelStates.{KernelParts}
 use Rattle.core_laws.specs.OneHart.{EachHart}
 use Rattle.core_laws.specs.Kept.{IsCoreKept}
-use Rattle.core_laws.proofs.Counts.{on_hart}
+use Rattle.core_model.proofs.Counts.{on_hart}
 
 -- none passes where a filter leaves nothing
 none_passes : {X : Type 0} (p : X → Bool) (xs : List X) → filter p xs ≡ [] → All (λ x. p x ≡ false) xs

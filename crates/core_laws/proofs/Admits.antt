@@ -10,7 +10,8 @@ use Rattle.hart_model.specs.declared.tag.Cell.{Cell}
 use Rattle.hart_model.specs.Cells.{blank}
 use Rattle.hart_model.specs.Context.{BodyState, ContextState, StandsForTask, task_of, fresh_body, admit_of, slot_len, slot_word, data_word}
 use Rattle.core_model.specs.Invariant.{IsOwn, IsBodyCase, IsReadyCase, IsWaitingCase}
-use Rattle.core_laws.specs.Starts.{IsReadyContext, IsDoneContext}
+use Rattle.core_model.specs.Routines.{IsReadyContext}
+use Rattle.core_laws.specs.Starts.{IsDoneContext}
 use Rattle.core_laws.proofs.StartWords.{length-start, start-pc, start-register, start-bound}
 
 -- at the start every value is 0

@@ -10,7 +10,8 @@ use Rattle.hart_model.specs.HartState.{HartState, boot_hart, tick_of, hart_cell}
 use Rattle.core_model.specs.Invariant.{IsHartSound}
 use Rattle.abstract_run.proofs.Ways.{user-tick, sound-tick, leads-tick, leads-first}
 use Rattle.core_laws.specs.KernelStates.{KernelParts, IsLinked, middle_at, idle_at, give_ready_index, give_done_index, take_index}
-use Rattle.core_laws.specs.Starts.{IsLatchPlace, IsUserState, IsEmptyHanded, IsAtStart, IsOnItsWay}
+use Rattle.core_model.specs.Routines.{IsLatchPlace, IsUserState}
+use Rattle.core_laws.specs.Starts.{IsEmptyHanded, IsAtStart, IsOnItsWay}
 use Rattle.core_laws.proofs.Waiting.{empty-sound, giving-ready-sound, giving-done-sound, empty-tick, giving-ready-tick, giving-done-tick}
 
 pub user-state-tick : (tasks : List Task) (number : ℕ) (h : HartState) (c : ContextState) → IsUserState tasks number h c

@@ -12,10 +12,11 @@ use Rattle.core_model.specs.Board.{BoardState, OutEntry, out_entry, out_without,
 use Rattle.core_model.specs.Core.{CoreState}
 use Rattle.core_model.specs.Invariant.{IsEndedCase, home_count, slot_count, entries_held}
 use Rattle.core_laws.specs.KernelStates.{KernelParts}
-use Rattle.core_laws.specs.Starts.{IsReadyContext, IsDoneContext}
+use Rattle.core_model.specs.Routines.{IsReadyContext}
+use Rattle.core_laws.specs.Starts.{IsDoneContext}
 use Rattle.core_laws.specs.Kept.{IsCoreKept, IsWaitingTask}
-use Rattle.core_laws.proofs.Lists.{filter-kept, filter-none}
-use Rattle.core_laws.proofs.Counts.{on_hart, with_ended, homes-take, slots-take, homes-give_ready, slots-give_ready, homes-give_done, slots-give_done}
+use Rattle.core_model.proofs.Lists.{filter-kept, filter-none}
+use Rattle.core_model.proofs.Counts.{on_hart, with_ended, homes-take, slots-take, homes-give_ready, slots-give_ready, homes-give_done, slots-give_done}
 use Rattle.core_laws.proofs.Admits.{done-admits}
 
 -- The board that an action of a hart leaves of a core, where these entries are out on the hart then.

@@ -19,11 +19,12 @@ use Rattle.core_model.specs.Core.{bodies_from, harts_from, boot_core, core_after
 use Rattle.core_model.specs.Loaded.{IsLoaded}
 use Rattle.core_model.specs.Invariant.{IsCoreSound, home_count, slot_count, entries_held}
 use Rattle.core_laws.specs.KernelStates.{KernelParts}
-use Rattle.core_laws.specs.Starts.{IsReadyContext, IsOnItsWay}
+use Rattle.core_model.specs.Routines.{IsReadyContext}
+use Rattle.core_laws.specs.Starts.{IsOnItsWay}
 use Rattle.core_laws.specs.OneHart.{EachHart}
 use Rattle.core_laws.specs.Kept.{IsCoreKept, IsWaitingTask}
-use Rattle.core_laws.proofs.Lists.{bit, count-cons, some-is}
-use Rattle.core_laws.proofs.Counts.{waits_as, ready_as, ready_in}
+use Rattle.core_model.proofs.Lists.{bit, count-cons, some-is}
+use Rattle.core_model.proofs.Counts.{waits_as, ready_as, ready_in}
 use Rattle.core_laws.proofs.Composition.{kept-sound, events-kept}
 use Rattle.core_laws.proofs.Admits.{AreCleanWords, clean-admits}
 

@@ -21,11 +21,12 @@ use Rattle.core_model.specs.Core.{CoreState, with_hart, after_take, after_give_d
 use Rattle.core_model.specs.Explained.{IsExplained}
 use Rattle.core_model.specs.Invariant.{IsCoreSound, IsWaitingCase, IsReadyCase, entries_held}
 use Rattle.core_laws.specs.KernelStates.{KernelParts}
-use Rattle.core_laws.specs.Starts.{IsReadyContext, IsOnItsWay}
+use Rattle.core_model.specs.Routines.{IsReadyContext}
+use Rattle.core_laws.specs.Starts.{IsOnItsWay}
 use Rattle.core_laws.specs.OneHart.{IsKept, GivesReady, GivesDone, EachHart}
 use Rattle.core_laws.specs.Kept.{IsCoreKept, IsWaitingTask}
-use Rattle.core_laws.proofs.Lists.{get-set}
-use Rattle.core_laws.proofs.Counts.{on_hart}
+use Rattle.core_model.proofs.Lists.{get-set}
+use Rattle.core_model.proofs.Counts.{on_hart}
 use Rattle.core_laws.proofs.Boards.{IsBoardKept, same-board, empty-board, taken-board, ready-board, done-board}
 
 module _ (k : KernelParts) (loaded : Loaded) (one : EachHart loaded.tasks k) where

@@ -9,10 +9,10 @@ use Rattle.hart_model.specs.HartState.{HartState}
 use Rattle.core_model.specs.declared.loaded.Loaded.{Loaded}
 use Rattle.core_model.specs.Core.{CoreState}
 use Rattle.core_model.specs.Invariant.{IsBodyCase, IsEndedCase}
-use Rattle.abstract_run.specs.Ways.{HoldsSame}
+use Rattle.core_model.specs.Routines.{HoldsSame, IsReadyContext}
 use Rattle.abstract_run.proofs.Ways.{leads-back}
 use Rattle.core_laws.specs.KernelStates.{KernelParts}
-use Rattle.core_laws.specs.Starts.{IsReadyContext, IsAtStart, IsOnItsWay}
+use Rattle.core_laws.specs.Starts.{IsAtStart, IsOnItsWay}
 use Rattle.core_laws.specs.Kept.{IsCoreKept, IsWaitingTask}
 use Rattle.core_laws.specs.Outputs.{IsOutputOf, IsHeldOutput, AreOutputsSound}
 use Rattle.core_laws.proofs.AloneOutputs.{prefix-self, prefix-then, output-of-whole}

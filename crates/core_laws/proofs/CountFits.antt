@@ -5,10 +5,10 @@ use Rattle.isa_model.specs.TaskPlaces.{IsValidTask}
 use Rattle.isa_model.specs.Alone.{alone_at, count_to}
 use Rattle.hart_model.specs.Context.{ContextState}
 use Rattle.hart_model.specs.HartState.{HartState}
-use Rattle.abstract_run.specs.Ways.{HoldsSame}
+use Rattle.core_model.specs.Routines.{HoldsSame, IsReadyContext}
 use Rattle.abstract_run.proofs.Ways.{leads-back}
 use Rattle.core_laws.specs.KernelStates.{KernelParts}
-use Rattle.core_laws.specs.Starts.{IsReadyContext, IsDoneContext, IsAtStart, IsOnItsWay}
+use Rattle.core_laws.specs.Starts.{IsDoneContext, IsAtStart, IsOnItsWay}
 use Rattle.core_laws.specs.Kept.{HeldCountFits}
 
 -- counting so far goes no further than the number of instructions

@@ -3,22 +3,25 @@ use Rattle.std.proofs.Common.{◌≡◌, ℕ, zero, suc, ◌+◌, ◌*◌, ◌<�
 use Rattle.std.proofs.lemmas.List.{get_or_append_left, get_or-replicate}
 use Rattle.isa_model.specs.declared.task.Task.{Task}
 use Rattle.isa_model.specs.declared.ends.End.{End}
+use Rattle.isa_model.specs.declared.ends.EndKind.{EndKind}
+use Rattle.isa_model.specs.Control.{kind_of}
 use Rattle.isa_model.specs.Alone.{alone_at}
+use Rattle.hart_model.specs.declared.tag.Cell.{Cell}
 use Rattle.hart_model.specs.Cells.{blank}
 use Rattle.hart_model.specs.Csrs.{CsrFile}
 use Rattle.hart_model.specs.Context.{ContextState, IsScrubbed, done_of, slot_word, task_of}
 use Rattle.hart_model.specs.HartState.{HartState}
 use Rattle.core_model.specs.Invariant.{IsEndedCase}
-use Rattle.abstract_run.specs.AbstractCell.{AbstractCell, Zero, AnyTagged, AbstractState}
+use Rattle.abstract_run.specs.AbstractCell.{AbstractCell, Zero, AnyTagged}
 use Rattle.abstract_run.specs.Concretization.{Setting, IsSound, Denotes}
 use Rattle.abstract_run.specs.SymbolicPath.{Question, AreSo, path_of, IsAsPathSays}
 use Rattle.abstract_run.specs.Ways.{Leads}
 use Rattle.abstract_run.specs.Laws.{PathsLead}
-use Rattle.abstract_run.proofs.Ways.{leads-map}
 use Rattle.abstract_run.proofs.ComputedPaths.{every_word}
 use Rattle.core_laws.specs.KernelStates.{KernelParts, IsKernel, middle_instrs, middle_len, middle_at, give_done_index, bound_cells}
 use Rattle.core_laws.specs.Starts.{IsAtTrap, IsGivingDone}
-use Rattle.core_laws.proofs.Trapped.{trapped_setting, trap-setting-sound, trap-leads}
+use Rattle.core_laws.proofs.Trapped.{trapped_setting, trap-setting-sound, AreOwn}
+use Rattle.core_laws.proofs.Saved.{EndsThere, trap-leads}
 use Rattle.core_laws.proofs.PathStates.{are_latches_public, held-context, held-is, has-public-latches, slot-denoted, slot-len, register-denoted, path-truthful}
 use Rattle.core_laws.proofs.DonePaths.{done_cells, done_state, done_path, trap_csrs, trap_state}
 
@@ -47,11 +50,18 @@ module _ (s : Setting) (sound : IsSound s) (number base : ℕ) (x7 load pc : Abs
       x6 = register-denoted says 5;
     }
 
+-- a hart that is about to give some ended task, and one that is led there
+abbrev pub GivesEnded : List Task → KernelParts → ℕ → HartState → Type 0
+GivesEnded tasks k number g = (d : ContextState) × IsGivingDone tasks number (middle_at k + 4 * give_done_index) g d
+
+abbrev pub LeadsToDone : List Task → KernelParts → ℕ → HartState → Type 0
+LeadsToDone tasks k number h = (steps : ℕ) × Leads tasks k.code.words number steps (GivesEnded tasks k number) h
+
 -- A trapped hart is led there by a way from the saved task on, where what the way asks is so.
 module _ (paths-lead : PathsLead) (k : KernelParts) (kernel : IsKernel k) {tasks : List Task} {number n cause : ℕ} {h : HartState} {c : ContextState}
     (trap : IsAtTrap tasks number n cause h c) where
-  abbrev pub trap-setting : Setting
-  trap-setting = trapped_setting tasks n h c blank
+  abbrev pub setting_with : (ℕ → Cell) → Setting
+  setting_with regs = trapped_setting tasks n regs c blank
 
   abbrev pub pc-of-trap : ℕ
   pc-of-trap = (alone_at (task_of c.body) n).pc
@@ -59,28 +69,50 @@ module _ (paths-lead : PathsLead) (k : KernelParts) (kernel : IsKernel k) {tasks
   abbrev pub idle-index : ℕ
   idle-index = middle_len + k.restore + 1
 
-  csrs-are : h.csrs ≡ trap_csrs h.csrs cause pc-of-trap
+  pub csrs-are : h.csrs ≡ trap_csrs h.csrs cause pc-of-trap
   csrs-are =
       ap (λ m. record h.csrs { mcause = m; mepc = h.csrs.mepc }) trap.mcause ∙ ap (λ e. record h.csrs { mcause = cause; mepc = e }) trap.mepc
 
-  held-is-saved : c ≡ record c { end = None }
+  pub held-is-saved : c ≡ record c { end = None }
   held-is-saved = ap (λ e. record c { end = e }) trap.no_end
 
-  pub done-leads : (answers : List Bool) (asked : List Question) (x7 load pc : AbstractCell) (end : End)
-      → path_of every_word trap-setting (middle_instrs idle-index) answers (trap_state trap-setting (trap_csrs h.csrs cause pc-of-trap) c)
-      ≡ Some (done_path (done_state (done_cells trap-setting x7 load pc) (trap_csrs h.csrs cause pc-of-trap) c end) asked)
-      → AreSo asked → are_latches_public (done_cells trap-setting x7 load pc) ≡ true → IsEndedCase tasks (done_of c end)
-      → (steps : ℕ) × Leads tasks k.code.words number steps (λ g. (d : ContextState) × IsGivingDone tasks number (middle_at k + 4 * give_done_index) g d) h
-  done-leads answers asked x7 load pc end path so untagged ended =
-      let s : Setting = trap-setting in
-      let sound : IsSound s = trap-setting-sound trap blank tt in
+  -- such a way, with these registers of the task, that ends it so
+  pub record EndsDone (regs : ℕ → Cell) (answers : List Bool) (kind : EndKind) : Type 0 where
+    pub asked : List Question
+    pub x7 : AbstractCell
+    pub load : AbstractCell
+    pub pc : AbstractCell
+    pub end : End
+    pub path : path_of every_word (setting_with regs) (middle_instrs idle-index) answers (trap_state (setting_with regs) (trap_csrs h.csrs cause pc-of-trap) c)
+        ≡ Some (done_path (done_state (done_cells (setting_with regs) x7 load pc) (trap_csrs h.csrs cause pc-of-trap) c end) asked)
+    pub so : AreSo asked
+    pub untagged : are_latches_public (done_cells (setting_with regs) x7 load pc) ≡ true
+    pub ended : IsEndedCase tasks (done_of c end)
+    pub kind_is : kind_of end ≡ kind
+
+  -- it is a path from the saved task to where it ends
+  abbrev pub done-end : (answers : List Bool) (kind : EndKind) (regs : ℕ → Cell) → AreOwn n c regs → EndsDone regs answers kind
+      → EndsThere trap blank tt regs k (trap_csrs h.csrs cause pc-of-trap) (record c { end = None }) answers (GivesEnded tasks k number)
+  done-end answers kind regs own e =
+      let s : Setting = setting_with regs in
       let csrs : CsrFile = trap_csrs h.csrs cause pc-of-trap in
-      let cells : AbstractState = done_cells s x7 load pc in
-      let End : HartState → Type 0 = IsAsPathSays s number (middle_at k) (done_state cells csrs c end) in
-      let There : HartState → Type 0 = λ g. (d : ContextState) × IsGivingDone tasks number (middle_at k + 4 * give_done_index) g d in (
+      record {
+        path = done_path (done_state (done_cells s e.x7 e.load e.pc) csrs c e.end) e.asked;
+        is_path = e.path;
+        so = e.so;
+        there = λ g at. (
+          held-context at,
+          gives-done s (trap-setting-sound trap blank tt regs own) number (middle_at k) e.x7 e.load e.pc csrs c e.end e.untagged trap.bound_registers
+              trap.slot e.ended g at,
+        );
+      }
+
+  pub done-leads : (answers : List Bool) (kind : EndKind) → ((regs : ℕ → Cell) → AreOwn n c regs → EndsDone regs answers kind)
+      → LeadsToDone tasks k number h
+  done-leads answers kind ends =
+      let csrs : CsrFile = trap_csrs h.csrs cause pc-of-trap in
+      let There : HartState → Type 0 = GivesEnded tasks k number in (
         k.save + length answers,
-        leads-map tasks k.code.words number (k.save + length answers) End There h
-            (λ g at. (held-context at, gives-done s sound number (middle_at k) x7 load pc csrs c end untagged trap.bound_registers trap.slot ended g at))
-            (trap-leads trap blank tt k kernel paths-lead csrs (record c { end = None }) csrs-are held-is-saved answers
-            (done_path (done_state cells csrs c end) asked) path so),
+        trap-leads trap blank tt k kernel paths-lead csrs (record c { end = None }) csrs-are held-is-saved answers There
+            (λ regs own. done-end answers kind regs own (ends regs own)),
       )

@@ -20,7 +20,8 @@ use Rattle.abstract_run.specs.Laws.{PathsLead}
 use Rattle.abstract_run.specs.Ways.{GoesOnTo}
 use Rattle.abstract_run.proofs.Ways.{leads-map, leads-first, holds-entries}
 use Rattle.core_laws.specs.KernelStates.{KernelParts, IsKernel, middle_at, idle_at, give_ready_index, give_done_index, take_index}
-use Rattle.core_laws.specs.Starts.{IsUserState, IsCallTrap, IsGivingReady, IsGivingDone, IsEmptyHanded, IsAtStart, IsOnItsWay}
+use Rattle.core_model.specs.Routines.{IsUserState}
+use Rattle.core_laws.specs.Starts.{IsCallTrap, IsGivingReady, IsGivingDone, IsEmptyHanded, IsAtStart, IsOnItsWay}
 use Rattle.core_laws.specs.UserLeads.{IsUserOutcome, UserStepLeads}
 use Rattle.core_laws.specs.OneHart.{IsKept, GivesReady, GivesDone, EachHart}
 use Rattle.core_laws.proofs.UserSteps.{user-step-leads}
@@ -28,7 +29,8 @@ use Rattle.core_laws.proofs.ReadyTimer.{LeadsToReady, timer-leads}
 use Rattle.core_laws.proofs.ReadyYield.{yield-leads}
 use Rattle.core_laws.proofs.ReadyOut.{out-leads}
 use Rattle.core_laws.proofs.ReadyIn.{in-leads}
-use Rattle.core_laws.proofs.DoneLeads.{LeadsToDone, fuel-leads, fault-leads, exit-leads, out-full-leads, tape-end-leads, bad-call-leads}
+use Rattle.core_laws.proofs.DoneEnds.{LeadsToDone}
+use Rattle.core_laws.proofs.DoneLeads.{fuel-leads, fault-leads, exit-leads, out-full-leads, tape-end-leads, bad-call-leads}
 use Rattle.core_laws.proofs.Gives.{wants-give-ready, wants-give-done}
 use Rattle.core_laws.proofs.Takes.{wants-take}
 use Rattle.core_laws.proofs.QueueAnswers.{kept-as, takes-kept, gives-ready-kept, gives-done-kept, idle-step}

@@ -1,5 +1,5 @@
 -- The ended task that a trap makes: its count, its output and its end are those of its whole run alone.
-use Rattle.std.proofs.Common.{◌≡◌, ℕ, ◌+◌, ◌<◌, ◌≢◌, false, ◌==◌, List, length, slice_get, nat_lt, Some, None, refl, sym, ap, subst, ◌∙◌, arith}
+use Rattle.std.proofs.Common.{◌≡◌, ℕ, ◌+◌, ◌<◌, ◌≢◌, false, ◌==◌, List, length, slice_get, nat_lt, Some, None, refl, sym, ap, subst, ◌∙◌}
 use Rattle.std.proofs.lemmas.Bool.{ne_eqb}
 use Rattle.isa_model.specs.declared.task.Task.{Task}
 use Rattle.isa_model.specs.declared.latch.Latch.TheVariants as latches
@@ -7,13 +7,11 @@ use Rattle.isa_model.specs.declared.ends.End.{End}
 use Rattle.isa_model.specs.declared.ends.End.TheVariants.{Exited, Faulted, BadCall, TapeEnd, OutFull, OutOfSteps}
 use Rattle.isa_model.specs.Alone.{AloneState, Executed, alone_at, after_instr, after_call, after_in}
 use Rattle.isa_model.specs.AloneValue.{alone_value}
-use Rattle.hart_model.specs.declared.place.Place.TheVariants.{Reg}
 use Rattle.hart_model.specs.Context.{ContextState, task_of, done_of}
-use Rattle.hart_model.specs.HartState.{HartState, hart_cell}
+use Rattle.hart_model.specs.HartState.{HartState}
 use Rattle.core_model.specs.Invariant.{IsEndedCase, IsRunning}
 use Rattle.core_laws.specs.Starts.{IsAtTrap, IsFuelTrap, IsFaultTrap, IsCallTrap}
 use Rattle.core_laws.proofs.AloneEnds.{end-last, end-count, used-end, used-count}
-use Rattle.core_laws.proofs.Trapped.{trapped-value}
 
 -- An instruction that ends its task, with the output as it was.
 module _ {tasks : List Task} {number n cause : ℕ} {h : HartState} {c : ContextState} (trap : IsAtTrap tasks number n cause h c) where
@@ -90,9 +88,8 @@ module _ {tasks : List Task} {number n : ℕ} {h : HartState} {c : ContextState}
       = ap (λ (d : Executed). d.state) f.serves ∙ is in
       ended-by f.trap end f.count f.fuel_left f.went_on (ap (λ (s : AloneState). s.end) state) (ap (λ (s : AloneState). s.output) state)
 
-  pub exit-ended : a7-of ≡ 0 → IsEndedCase tasks (done_of c (Exited (hart_cell h (Reg 10)).value))
-  exit-ended e =
-      let value : (hart_cell h (Reg 10)).value ≡ a0-of = trapped-value f.trap 10 (omega arith) (omega arith) in
+  pub exit-ended : (a0 : ℕ) → a0 ≡ a0-of → a7-of ≡ 0 → IsEndedCase tasks (done_of c (Exited a0))
+  exit-ended a0 value e =
       let P : ℕ → Type 0 = λ v. IsEndedCase tasks (done_of c (Exited v)) in
       subst P (sym value) (call-ended (Exited a0-of) (exits the-task a7-of a0-of (alone_at the-task n) e))
 
@@ -103,8 +100,7 @@ module _ {tasks : List Task} {number n : ℕ} {h : HartState} {c : ContextState}
   pub tape-end-ended : a7-of ≡ 2 → slice_get (task_of c.body).tape (alone_at (task_of c.body) n).tape_at ≡ None → IsEndedCase tasks (done_of c TapeEnd)
   tape-end-ended e none = call-ended TapeEnd (runs-out the-task a7-of a0-of (alone_at the-task n) e none)
 
-  pub bad-call-ended : a7-of ≢ 0 → a7-of ≢ 1 → a7-of ≢ 2 → a7-of ≢ 3 → IsEndedCase tasks (done_of c (BadCall (hart_cell h (Reg 17)).value))
-  bad-call-ended not0 not1 not2 not3 =
-      let value : (hart_cell h (Reg 17)).value ≡ a7-of = trapped-value f.trap 17 (omega arith) (omega arith) in
+  pub bad-call-ended : (a7 : ℕ) → a7 ≡ a7-of → a7-of ≢ 0 → a7-of ≢ 1 → a7-of ≢ 2 → a7-of ≢ 3 → IsEndedCase tasks (done_of c (BadCall a7))
+  bad-call-ended a7 value not0 not1 not2 not3 =
       let P : ℕ → Type 0 = λ v. IsEndedCase tasks (done_of c (BadCall v)) in
       subst P (sym value) (call-ended (BadCall a7-of) (is-bad the-task a7-of a0-of (alone_at the-task n) not0 not1 not2 not3))

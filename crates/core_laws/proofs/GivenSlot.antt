@@ -2,7 +2,7 @@
 use Rattle.std.proofs.Common.{◌≡◌, ℕ, zero, suc, ◌+◌, ◌-◌, ◌≤◌, ◌<◌, List, ◌∷◌, ◌++◌, get_or, refl, ap, ◌∙◌, arith}
 use Rattle.hart_model.specs.Pmp.{bounds_of}
 use Rattle.hart_model.specs.Context.{bound_word}
-use Rattle.abstract_run.specs.AbstractCell.{AbstractCell, AnyTagged, PublicNumber, TaskReg, TapeWord}
+use Rattle.abstract_run.specs.AbstractCell.{AbstractCell, AnyTagged, PublicNumber, TaskReg, GivenCell}
 use Rattle.abstract_run.specs.Concretization.{Setting}
 use Rattle.core_laws.specs.KernelStates.{numbered, bound_cells}
 use Rattle.core_laws.proofs.ReadyPaths.{given_slot}
@@ -12,7 +12,7 @@ use native.Mathlib.Decide.{dec_le}
 
 -- the words from a0's on
 abbrev from_a0 : Setting → List AbstractCell
-from_a0 s = TapeWord ∷ numbered TaskReg 11 21 ++ bound_cells s.task
+from_a0 s = GivenCell ∷ numbered TaskReg 11 21 ++ bound_cells s.task
 
 -- the registers before a0
 given-before : (s : Setting) (pc k : ℕ) → k < 9 → get_or (given_slot s pc) (suc k) AnyTagged ≡ TaskReg (suc k)
@@ -38,7 +38,7 @@ given-reg s pc (suc i) low high other = elim (dec_le (suc i) 9) [
         ap (λ k. get_or (given_slot s pc) k AnyTagged) place ∙ given-after s pc (suc i - 11) (omega arith) ∙ ap TaskReg number
 
 -- a0's word is the tape's
-pub given-a0 : (s : Setting) (pc : ℕ) → get_or (given_slot s pc) 10 AnyTagged ≡ TapeWord
+pub given-a0 : (s : Setting) (pc : ℕ) → get_or (given_slot s pc) 10 AnyTagged ≡ GivenCell
 given-a0 s pc = refl
 
 -- the bounds stand after them

@@ -8,8 +8,8 @@ use Rattle.core_model.specs.declared.home.Home.TheVariants.{Waiting, Slot, Hart,
 use Rattle.core_model.specs.Board.{BoardState, OutEntry}
 use Rattle.core_model.specs.Homes.{home_of}
 use Rattle.core_model.specs.Invariant.{home_count}
-use Rattle.core_laws.proofs.Lists.{bit, count-cons}
-use Rattle.core_laws.proofs.Counts.{waits_as, ready_as, out_as, ended_as}
+use Rattle.core_model.proofs.Lists.{bit, count-cons}
+use Rattle.core_model.proofs.Counts.{waits_as, ready_as, out_as, ended_as}
 
 module _ {X : Type 0} (p : X → Bool) where
   -- none is found exactly where none is counted

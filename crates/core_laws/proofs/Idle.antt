@@ -21,7 +21,8 @@ use Rattle.hart_model.specs.StepResult.{StepResult, Steps}
 use Rattle.hart_model.specs.HartStep.{hart_step}
 use Rattle.hart_model.specs.MachineStep.{OperandCells, machine_instr_step, operand_values, after_machine_effect, after_machine_writes, held_after_side}
 use Rattle.core_model.specs.Explained.{IsExplained}
-use Rattle.abstract_run.specs.Ways.{HoldsSame, GoesOnTo}
+use Rattle.core_model.specs.Routines.{HoldsSame}
+use Rattle.abstract_run.specs.Ways.{GoesOnTo}
 use Rattle.abstract_run.proofs.Paths.{machine-step-at}
 use Rattle.core_laws.specs.KernelStates.{KernelParts, IsLinked, middle_at, idle_at, middle_len, give_done_index, take_index}
 use Rattle.core_laws.specs.Starts.{IsEmptyHanded}

@@ -5,8 +5,6 @@ pub mod AloneServices
 pub mod AloneOutputs
 pub mod OwnCells
 pub mod Numbered
--- The kernel's own code is a kernel.
-pub mod Emitted
 -- Steps of a hart in user mode.
 pub mod UserStands
 pub mod UserTruth
@@ -16,7 +14,10 @@ pub mod UserFaults
 pub mod UserGoesOn
 pub mod UserSteps
 -- From a trap through the save part and along a path of the middle.
+pub mod TakenStands
 pub mod Trapped
+pub mod PartLeads
+pub mod Saved
 pub mod PathStates
 pub mod ReadyPaths
 pub mod TrapEnds
@@ -41,16 +42,18 @@ pub mod Gives
 pub mod Idle
 pub mod Takes
 -- From a take through the restore part back into user mode.
-pub mod TakenStands
 pub mod TakenPath
 pub mod Returns
+-- The kernel's own code is a kernel.
+pub mod Emitted
+pub mod EmittedSaves
+pub mod EmittedRestores
+pub mod EmittedKernel
 -- What each hart does, whatever the others do.
 pub mod QueueAnswers
 pub mod AtStart
 pub mod EachHart
 -- What each event keeps of a board and of a core.
-pub mod Lists
-pub mod Counts
 pub mod StartWords
 pub mod Admits
 pub mod Boards
@@ -71,3 +74,4 @@ pub mod Proved
 -- Examples.
 mod TryStates
 mod TryCores
+mod TryParts

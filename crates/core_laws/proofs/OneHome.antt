@@ -10,7 +10,7 @@ use Rattle.core_model.specs.declared.home.Home.TheVariants.{Waiting, Slot, Hart,
 use Rattle.core_model.specs.Board.{BoardState, OutEntry}
 use Rattle.core_model.specs.Homes.{home_or, home_of}
 use Rattle.core_laws.specs.Homes.{IsHomeOf, HasExactHomes}
-use Rattle.core_laws.proofs.Counts.{waits_as, ready_as, out_as, ended_as}
+use Rattle.core_model.proofs.Counts.{waits_as, ready_as, out_as, ended_as}
 use Rattle.core_laws.proofs.Homes.{HasOneHomeEach, one_home, no-home, find-some, waiting-home, ready-home, out-home, ended-home}
 
 -- what is found is in the list and passes

@@ -11,7 +11,7 @@ use Rattle.core_model.specs.Core.{CoreState}
 use Rattle.core_model.specs.Invariant.{entries_held}
 use Rattle.core_laws.specs.KernelStates.{KernelParts}
 use Rattle.core_laws.specs.Kept.{IsCoreKept}
-use Rattle.core_laws.proofs.Counts.{on_hart}
+use Rattle.core_model.proofs.Counts.{on_hart}
 use Rattle.core_laws.proofs.Boards.{others_stay}
 
 -- those that pass a test and the others are all

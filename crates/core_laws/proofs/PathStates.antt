@@ -15,7 +15,8 @@ use Rattle.abstract_run.specs.Concretization.{Setting, IsSound, Denotes, AllDeno
 use Rattle.abstract_run.specs.SymbolicPath.{PathState, IsAsPathSays}
 use Rattle.abstract_run.proofs.OneWrite.{denoted-truthful, denoted-public, all-get, regs-get, cell-denoted}
 use Rattle.abstract_run.proofs.Denoted.{denote-lengths}
-use Rattle.core_laws.specs.Starts.{IsLatchPlace, HasPublicLatches}
+use Rattle.core_model.specs.Routines.{IsLatchPlace}
+use Rattle.core_laws.specs.Starts.{HasPublicLatches}
 
 -- whether no latch of a state is known as tagged; x0 is never read
 abbrev pub is_untagged : AbstractCell → Bool
@@ -69,7 +70,7 @@ pub record ArePublic (a : AbstractState) : Type 0 where
   pub zero : is_untagged a.zero ≡ true
 
 -- they hold where the test does
-are-public : (a : AbstractState) → are_latches_public a ≡ true → ArePublic a
+pub are-public : (a : AbstractState) → are_latches_public a ≡ true → ArePublic a
 are-public a e =
     let r1 = (and_parts (are_regs_public a.regs) _ e).1 in
     let r2 = (and_parts (is_untagged a.port_a) _ r1).1 in
@@ -89,7 +90,7 @@ are-public a e =
     }
 
 -- then each latch of a hart is public
-latch-public : (s : Setting) (a : AbstractState) (h : HartState) → ArePublic a → IsDenotedBy s a (cells_of h) → (q : Place) → IsLatchPlace q
+pub latch-public : (s : Setting) (a : AbstractState) (h : HartState) → ArePublic a → IsDenotedBy s a (cells_of h) → (q : Place) → IsLatchPlace q
     → (hart_cell h q).tag ≡ Public
 latch-public s a h e d (Reg zero) ok = refl
 latch-public s a h e d (Reg (suc i)) ok = regs-public s a h i e.regs d

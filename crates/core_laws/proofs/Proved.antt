@@ -2,7 +2,7 @@
 use Rattle.abstract_run.proofs.StepsTaken.{steps-taken}
 use Rattle.abstract_run.proofs.Paths.{paths-lead}
 use Rattle.core_laws.specs.KernelStates.{IsKernel, emitted_parts}
-use Rattle.core_laws.proofs.Emitted.{emitted-kernel}
+use Rattle.core_laws.proofs.EmittedKernel.{emitted-kernel}
 use Rattle.core_laws.proofs.EachHart.{each-hart}
 use Rattle.core_laws.proofs.FromHarts.{HartsOfKernels}
 
@@ -12,4 +12,4 @@ kernel-harts k kernel loaded fits = each-hart k kernel (paths-lead steps-taken) 
 
 -- the kernel of this project is one
 pub emitted-is-kernel : IsKernel emitted_parts
-emitted-is-kernel = emitted-kernel (paths-lead steps-taken)
+emitted-is-kernel = emitted-kernel

@@ -16,7 +16,8 @@ use Rattle.hart_model.specs.Probes.{probe_of}
 use Rattle.hart_model.specs.HartState.{HartState, hart_cell, hart_with_cell, bases_of}
 use Rattle.hart_model.specs.Writes.{CellWrite, HartAndProbes, probe_of_write, after_writes}
 use Rattle.core_model.specs.Explained.{IsExplained}
-use Rattle.core_laws.specs.Starts.{IsLatchPlace, HasPublicLatches}
+use Rattle.core_model.specs.Routines.{IsLatchPlace}
+use Rattle.core_laws.specs.Starts.{HasPublicLatches}
 
 -- a register or another latch, but for mscratch
 abbrev pub IsPlain : Place → Type 0

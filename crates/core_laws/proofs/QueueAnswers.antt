@@ -7,7 +7,7 @@ use Rattle.hart_model.specs.declared.calls.QueueCall.TheVariants.{Take, GiveRead
 use Rattle.hart_model.specs.declared.probe.Probe.{Probe}
 use Rattle.hart_model.specs.declared.place.Place.TheVariants as places
 use Rattle.hart_model.specs.Csrs.{public}
-use Rattle.hart_model.specs.Context.{ContextState, slot_address}
+use Rattle.hart_model.specs.Context.{ContextState, slot_address, task_of}
 use Rattle.hart_model.specs.HartState.{HartState, hart_cell}
 use Rattle.hart_model.specs.Writes.{CellWrite}
 use Rattle.hart_model.specs.StepResult.{StepResult, Steps, Wants}
@@ -15,18 +15,18 @@ use Rattle.hart_model.specs.HartStep.{hart_step, answer_take, answer_give}
 use Rattle.core_model.specs.Board.{OutEntry}
 use Rattle.core_model.specs.Invariant.{entries_held}
 use Rattle.abstract_run.specs.Laws.{PathsLead}
-use Rattle.abstract_run.specs.SymbolicPath.{IsAsPathSays}
-use Rattle.abstract_run.specs.Ways.{ticked_if, GoesOnTo, Leads}
+use Rattle.core_model.specs.Routines.{ticked_if, IsReadyContext}
+use Rattle.abstract_run.specs.Ways.{GoesOnTo, Leads}
 use Rattle.abstract_run.proofs.Ways.{leads-then}
-use Rattle.core_laws.specs.KernelStates.{KernelParts, IsKernel, middle_at, idle_at, mret_at, give_ready_index, give_done_index, take_index, restored_cells, at_start}
-use Rattle.core_laws.specs.Starts.{IsEmptyHanded, IsGivingReady, IsGivingDone, IsReadyContext, IsAtStart, IsOnItsWay}
+use Rattle.core_laws.specs.KernelStates.{KernelParts, IsKernel, middle_at, idle_at, mret_at, give_ready_index, give_done_index, take_index}
+use Rattle.core_laws.specs.Starts.{IsEmptyHanded, IsGivingReady, IsGivingDone, IsAtStart, IsOnItsWay}
 use Rattle.core_laws.specs.OneHart.{IsKept, IsGot, GivesReady, GivesDone}
 use Rattle.core_laws.proofs.Waiting.{empty-sound, empty-ticked}
 use Rattle.core_laws.proofs.Gives.{give_writes, wants-give-ready, wants-give-done, given-ready, given-done}
 use Rattle.core_laws.proofs.Idle.{goes-on-empty, jumps-to-take, branches-to-idle, idles}
 use Rattle.core_laws.proofs.Takes.{take_begun, wants-take, after-take, taken-x5, x5-ticked}
 use Rattle.core_laws.proofs.TakenStands.{taken_setting, taken-setting-sound, pc_of, taken-stands}
-use Rattle.core_laws.proofs.TakenPath.{task_csrs, to-mret}
+use Rattle.core_laws.proofs.TakenPath.{IsRestored, task_csrs, to-mret}
 use Rattle.core_laws.proofs.Returns.{returns}
 
 -- what is kept after a step that is known is so of the same step in other words
@@ -146,9 +146,9 @@ module _ (k : KernelParts) (kernel : IsKernel k) (tasks : List Task) (number : �
       let stands = taken-stands tasks c r k number f after.0 refl (taken-x5 h (public (slot_address c.slot)) e.hart.registers) in
       let way : Leads tasks k.code.words number (12 + k.restore + 1) (IsAtStart tasks k number) f =
       leads-then tasks k.code.words number (12 + k.restore) 1
-      (IsAsPathSays s number (mret_at k) (at_start (restored_cells s) (task_csrs s.task (pc_of c) f.csrs) c)) (IsAtStart tasks k number) f
-      (to-mret k kernel paths-lead s ok number f.csrs c (pc_of c) f stands)
-      (λ g says. returns k kernel.linked tasks number c r f.csrs after.0.bound_registers g says) in
+      (IsRestored tasks number (mret_at k) (task_csrs (task_of c.body) (pc_of c) f.csrs) c) (IsAtStart tasks k number) f
+      (to-mret k kernel paths-lead tasks number c r f.csrs f stands)
+      (λ g at. returns k kernel.linked tasks number c r f.csrs after.0.bound_registers g at) in
       record { hart = (12 + k.restore + 1, way); explained = after.1; holds = refl }
 
   takes : PathsLead → (h : HartState) (got : Option ContextState) → IsEmptyHanded tasks number (middle_at k + 4 * take_index) h → IsGot tasks got

@@ -7,7 +7,7 @@ use Rattle.isa_model.specs.Alone.{alone_at}
 use Rattle.hart_model.specs.Csrs.{public}
 use Rattle.hart_model.specs.Context.{ContextState, slot_len, pc_word, slot_word, data_word, task_of}
 use Rattle.core_model.specs.Invariant.{IsOwn, IsBodyCase, HasBounds}
-use Rattle.core_laws.specs.Starts.{IsReadyContext}
+use Rattle.core_model.specs.Routines.{IsReadyContext}
 use Rattle.core_laws.proofs.OwnCells.{own-value}
 
 -- A context with its task's body, pc, registers and bounds is ready.

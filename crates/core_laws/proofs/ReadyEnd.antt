@@ -10,7 +10,7 @@ use Rattle.hart_model.specs.Csrs.{public}
 use Rattle.hart_model.specs.Context.{ContextState, slot_len, pc_word, bound_word, slot_word, task_of}
 use Rattle.hart_model.specs.HartState.{HartState}
 use Rattle.core_model.specs.Invariant.{IsOwn, IsBodyCase, HasBounds}
-use Rattle.abstract_run.specs.AbstractCell.{AbstractCell, AnyTagged, PublicNumber, TaskReg, TapeWord}
+use Rattle.abstract_run.specs.AbstractCell.{AbstractCell, AnyTagged, PublicNumber, TaskReg, GivenCell}
 use Rattle.abstract_run.specs.Concretization.{Setting, Denotes}
 use Rattle.core_laws.specs.KernelStates.{bound_cells}
 use Rattle.core_laws.specs.Starts.{IsGivingReady}
@@ -25,11 +25,11 @@ pub reg-is : (s : Setting) (i : ℕ) (a : AbstractCell) (cell : Cell) → a ≡ 
 reg-is s i a cell e d = let P : AbstractCell → Type 0 = λ x. Denotes s x cell in (subst P e d).2
 
 -- one of which it says a public number has this number
-number-is : (s : Setting) (value : ℕ) (a : AbstractCell) (cell : Cell) → a ≡ PublicNumber value → Denotes s a cell → cell ≡ public value
+pub number-is : (s : Setting) (value : ℕ) (a : AbstractCell) (cell : Cell) → a ≡ PublicNumber value → Denotes s a cell → cell ≡ public value
 number-is s value a cell e d = let P : AbstractCell → Type 0 = λ x. Denotes s x cell in subst P e d
 
 -- and one of which it says that the tape gives it is the tape's
-pub tape-is : (s : Setting) (a : AbstractCell) (cell : Cell) → a ≡ TapeWord → Denotes s a cell → cell ≡ s.tape_word
+pub tape-is : (s : Setting) (a : AbstractCell) (cell : Cell) → a ≡ GivenCell → Denotes s a cell → cell ≡ s.given_cell
 tape-is s a cell e d = let P : AbstractCell → Type 0 = λ x. Denotes s x cell in subst P e d
 
 -- the registers among the words of a saved task's slot

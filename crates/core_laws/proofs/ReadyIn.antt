@@ -6,29 +6,27 @@ use Rattle.isa_model.specs.declared.latch.Latch.TheVariants as latches
 use Rattle.isa_model.specs.Bits.{low_word}
 use Rattle.isa_model.specs.Alone.{alone_at}
 use Rattle.isa_model.specs.AloneValue.{alone_value}
-use Rattle.hart_model.specs.declared.place.Place.TheVariants.{Reg}
 use Rattle.hart_model.specs.declared.tag.Cell.{Cell}
 use Rattle.hart_model.specs.declared.tag.Tag.TheVariants.{Of}
 use Rattle.hart_model.specs.Context.{ContextState, slot_word, task_of}
 use Rattle.hart_model.specs.Ports.{AdvancesTape}
-use Rattle.hart_model.specs.HartState.{HartState, hart_cell}
+use Rattle.hart_model.specs.HartState.{HartState}
 use Rattle.hart_model.specs.MachineStep.{held_after_side}
 use Rattle.core_model.specs.Invariant.{IsTruthful, IsOwn}
 use Rattle.abstract_run.specs.AbstractCell.{AnyTagged}
 use Rattle.abstract_run.specs.SymbolicPath.{AreSo}
 use Rattle.abstract_run.specs.Laws.{PathsLead}
-use Rattle.abstract_run.proofs.Ways.{leads-map}
 use Rattle.core_laws.specs.KernelStates.{KernelParts, IsKernel, middle_len, middle_at, give_ready_index}
-use Rattle.core_laws.specs.Starts.{IsCallTrap, IsGivingReady}
-use Rattle.core_laws.proofs.Trapped.{trapped_setting, trapped-value}
+use Rattle.core_laws.specs.Starts.{IsCallTrap}
+use Rattle.core_laws.proofs.Trapped.{trapped_setting, AreOwn, own-reg-value}
 use Rattle.core_laws.proofs.AloneServices.{with_input, call-inputs, input-other}
 use Rattle.core_laws.proofs.ReadyPaths.{given_slot, in_answers, in_asked, in-path}
 use Rattle.core_laws.proofs.ReadyCalls.{called, left-over, service-goes-on, own-after, pc-after, body-after, within-after}
-use Rattle.core_laws.proofs.TrapEnds.{EndSays, trap-ends}
+use Rattle.core_laws.proofs.TrapEnds.{EndSays, EndsSo, trap-ends}
 use Rattle.core_laws.proofs.PathStates.{context_at}
 use Rattle.core_laws.proofs.ReadyEnd.{reg-is, tape-is, giving-ready}
 use Rattle.core_laws.proofs.GivenSlot.{given-reg, given-bound}
-use Rattle.core_laws.proofs.ReadyTimer.{LeadsToReady}
+use Rattle.core_laws.proofs.ReadyTimer.{GivesSome, LeadsToReady}
 use native.Mathlib.Decide.{dec_le}
 
 -- the cell that a task's tape gives: its register a0 has the word after the call
@@ -55,7 +53,7 @@ module _ {tasks : List Task} {number n : ℕ} {h : HartState} {c : ContextState}
   word-is = sym ((service-goes-on call (with_input word (alone_at (task_of c.body) n)) input-state call.went_on).value (latches.Reg 10))
 
   -- the tape's cell says the truth
-  tape-truthful : IsTruthful tasks (tape_cell c word)
+  pub tape-truthful : IsTruthful tasks (tape_cell c word)
   tape-truthful = record { task = task_of c.body; is_task = call.trap.is_task; is_value = word-is }
 
   -- the tape's cell is the task's own a0 after the call
@@ -72,28 +70,28 @@ module _ {tasks : List Task} {number n : ℕ} {h : HartState} {c : ContextState}
   })
 
   -- each register's word of the slot is the task's own after the call
-  given-own : (at pc : ℕ) (after : ContextState) (g : HartState)
-      → EndSays (trapped_setting tasks n h c (tape_cell c word)) number at (given_slot (trapped_setting tasks n h c (tape_cell c word)) pc) after g
+  given-own : (regs : ℕ → Cell) → AreOwn n c regs → (at pc : ℕ) (after : ContextState) (g : HartState)
+      → EndSays (trapped_setting tasks n regs c (tape_cell c word)) number at (given_slot (trapped_setting tasks n regs c (tape_cell c word)) pc) after g
       → (i : ℕ) → 1 ≤ i → i < 32 → IsOwn c.body.task_no (task_of c.body) c.body.count (latches.Reg i) (slot_word (context_at after g) i)
-  given-own at pc after g says i low high = elim (dec_le 10 i) [
+  given-own regs own at pc after g says i low high = elim (dec_le 10 i) [
     | yes above ↦ by-above (dec_le 11 i) above
     | no below ↦ other (λ same. absurd (omega (arith, same)))
   ]
     where
       other : (i ≡ 10 → ⊥) → IsOwn c.body.task_no (task_of c.body) c.body.count (latches.Reg i) (slot_word (context_at after g) i)
       other differs =
-          let s = trapped_setting tasks n h c (tape_cell c word) in
+          let s = trapped_setting tasks n regs c (tape_cell c word) in
           let P : Cell → Type 0 = λ cell. IsOwn c.body.task_no (task_of c.body) c.body.count (latches.Reg i) cell in
-          let same : slot_word (context_at after g) i ≡ hart_cell h (Reg i) =
+          let same : slot_word (context_at after g) i ≡ regs i =
           reg-is s i (get_or (given_slot s pc) i AnyTagged) (slot_word (context_at after g) i) (given-reg s pc i low high differs) (says.denoted i) in
           let kept = input-other word (alone_at (task_of c.body) n) i (ne_eqb 10 i (λ ten. differs (sym ten))) in
           let state = with_input word (alone_at (task_of c.body) n) in
-          subst P (sym same) (own-after call state input-state call.went_on (latches.Reg i) (hart_cell h (Reg i)) kept (call.trap.registers i low high))
+          subst P (sym same) (own-after call state input-state call.went_on (latches.Reg i) (regs i) kept (own i low high))
 
       by-above : Dec (11 ≤ i) → 10 ≤ i → IsOwn c.body.task_no (task_of c.body) c.body.count (latches.Reg i) (slot_word (context_at after g) i)
       by-above (yes more) above = other (λ same. absurd (omega (arith, same)))
       by-above (no less) above =
-          let s = trapped_setting tasks n h c (tape_cell c word) in
+          let s = trapped_setting tasks n regs c (tape_cell c word) in
           let ten : 10 ≡ i = omega arith in
           let P : Cell → Type 0 = λ cell. IsOwn c.body.task_no (task_of c.body) c.body.count (latches.Reg 10) cell in
           let Q : ℕ → Type 0 = λ j. IsOwn c.body.task_no (task_of c.body) c.body.count (latches.Reg j) (slot_word (context_at after g) j) in
@@ -101,34 +99,46 @@ module _ {tasks : List Task} {number n : ℕ} {h : HartState} {c : ContextState}
           tape-is s (get_or (given_slot s pc) 10 AnyTagged) (slot_word (context_at after g) 10) refl (says.denoted 10) in
           subst Q ten (subst P (sym same) tape-own)
 
+-- the path of a task that asks for a word, which its tape has
+pub in-ends : (k : KernelParts) (tasks : List Task) (number n : ℕ) (h : HartState) (c : ContextState) (word : ℕ) → IsCallTrap tasks number n h c
+    → alone_value (task_of c.body) n (latches.Reg 17) ≡ 2 → slice_get c.body.tape (alone_at (task_of c.body) n).tape_at ≡ Some word
+    → (regs : ℕ → Cell) → AreOwn n c regs
+    → EndsSo (trapped_setting tasks n regs c (tape_cell c word)) number k h.csrs c in_answers give_ready_index (GivesSome tasks k number)
+in-ends k tasks number n h c word call is_in given regs own =
+    let T = task_of c.body in
+    let trap = call.trap in
+    let at = middle_at k + 4 * give_ready_index in
+    let pc = low_word (h.csrs.mepc + 4) in
+    let after : ContextState = held_after_side AdvancesTape c in
+    let state = with_input word (alone_at T n) in
+    let is_state = input-state call word is_in given in
+    let held_given : slice_get c.body.tape c.body.tape_at ≡ Some word = ap (λ t. slice_get c.body.tape t) trap.tape_at ∙ given in
+    let s = trapped_setting tasks n regs c (tape_cell c word) in
+    let slot = given_slot s pc in
+    record {
+      slot = slot;
+      after = after;
+      asked = in_asked h.csrs.mcause (regs 17).value c (tape_cell c word);
+      ends = in-path s (middle_len + k.restore + 1) h.csrs c;
+      so = in-so h.csrs.mcause (regs 17).value c word trap.mcause (own-reg-value n c regs own 17 (lit≤ tt) (lit< tt) ∙ is_in) held_given;
+      end_kept = refl;
+      there = λ g says. (
+        context_at after g,
+        giving-ready s number at pc slot after g says refl
+            (body-after call state is_state call.went_on c.body.output (c.body.tape_at + 1) trap.output (ap (λ t. t + 1) trap.tape_at) (λ at. refl))
+            trap.no_end refl refl (pc-after call state is_state call.went_on refl)
+            (given-own call word is_in given regs own at pc after g says) (λ i low. given-bound s pc i low)
+            trap.slot trap.valid (within-after call state is_state call.went_on),
+      );
+    }
+
 module _ (k : KernelParts) (kernel : IsKernel k) (paths-lead : PathsLead) where
   -- A task that asks for a word, which its tape has, is led to where its context is given back.
   pub in-leads : (tasks : List Task) (number n : ℕ) (h : HartState) (c : ContextState) (word : ℕ) → IsCallTrap tasks number n h c
       → alone_value (task_of c.body) n (latches.Reg 17) ≡ 2 → slice_get c.body.tape (alone_at (task_of c.body) n).tape_at ≡ Some word
       → LeadsToReady tasks k number h
-  in-leads tasks number n h c word call is_in given =
-      let T = task_of c.body in
-      let trap = call.trap in
-      let s = trapped_setting tasks n h c (tape_cell c word) in
-      let at = middle_at k + 4 * give_ready_index in
-      let steps = k.save + length in_answers in
-      let pc = low_word (h.csrs.mepc + 4) in
-      let slot = given_slot s pc in
-      let after : ContextState = held_after_side AdvancesTape c in
-      let state = with_input word (alone_at T n) in
-      let is_state = input-state call word is_in given in
-      let held_given : slice_get c.body.tape c.body.tape_at ≡ Some word = ap (λ t. slice_get c.body.tape t) trap.tape_at ∙ given in (
-        steps,
-        leads-map tasks k.code.words number steps (EndSays s number at slot after) (λ g. (d : ContextState) × IsGivingReady tasks number at g d) h
-            (λ g says. (
-              context_at after g,
-              giving-ready s number at pc slot after g says refl
-                  (body-after call state is_state call.went_on c.body.output (c.body.tape_at + 1) trap.output (ap (λ t. t + 1) trap.tape_at) (λ at. refl))
-                  trap.no_end refl refl (pc-after call state is_state call.went_on refl)
-                  (given-own call word is_in given at pc after g says) (λ i low. given-bound s pc i low)
-                  trap.slot trap.valid (within-after call state is_state call.went_on),
-            ))
-            (trap-ends k kernel paths-lead tasks number n 8 h c (tape_cell c word) trap (tape-truthful call word is_in given) in_answers give_ready_index slot
-            after (in_asked h.csrs.mcause (hart_cell h (Reg 17)).value c (tape_cell c word)) (in-path s (middle_len + k.restore + 1) h.csrs c)
-            (in-so h.csrs.mcause (hart_cell h (Reg 17)).value c word trap.mcause (trapped-value call.trap 17 (lit≤ tt) (lit< tt) ∙ is_in) held_given)),
-      )
+  in-leads tasks number n h c word call is_in given = (
+    k.save + length in_answers,
+    trap-ends k kernel paths-lead tasks number n 8 h c (tape_cell c word) call.trap (tape-truthful call word is_in given) in_answers give_ready_index
+        (GivesSome tasks k number) (in-ends k tasks number n h c word call is_in given),
+  )

@@ -7,7 +7,7 @@ use Rattle.hart_model.specs.Csrs.{CsrFile}
 use Rattle.hart_model.specs.Context.{ContextState}
 use Rattle.hart_model.specs.Ports.{Outputs, AdvancesTape}
 use Rattle.hart_model.specs.MachineStep.{held_after_side}
-use Rattle.abstract_run.specs.AbstractCell.{AbstractCell, PublicAny, PublicNumber, TaskReg, TapeWord}
+use Rattle.abstract_run.specs.AbstractCell.{AbstractCell, PublicAny, PublicNumber, TaskReg, GivenCell}
 use Rattle.abstract_run.specs.Concretization.{Setting}
 use Rattle.abstract_run.specs.SymbolicPath.{Path, path_from, path_of, Question, IsTaken, HasRoom, GivesWord}
 use Rattle.abstract_run.proofs.ComputedPaths.{every_word, straight}
@@ -45,7 +45,7 @@ abbrev pub saved_slot : Setting → ℕ → List AbstractCell
 saved_slot s pc = PublicNumber pc ∷ numbered TaskReg 1 31 ++ bound_cells s.task
 
 abbrev pub given_slot : Setting → ℕ → List AbstractCell
-given_slot s pc = PublicNumber pc ∷ numbered TaskReg 1 9 ++ TapeWord ∷ numbered TaskReg 11 21 ++ bound_cells s.task
+given_slot s pc = PublicNumber pc ∷ numbered TaskReg 1 9 ++ GivenCell ∷ numbered TaskReg 11 21 ++ bound_cells s.task
 
 -- the branches of an interrupt that is the timer's, and what they ask
 abbrev pub timer_answers : List Bool
@@ -122,15 +122,15 @@ abbrev pub in_answers : List Bool
 in_answers = service_answers ++ straight 4 ++ true ∷ straight 10
 
 abbrev pub in_asked : ℕ → ℕ → ContextState → Cell → List Question
-in_asked cause a7 held tape_word =
+in_asked cause a7 held given_cell =
     IsTaken Beq cause 8 true ∷ IsTaken Beq a7 0 false ∷ IsTaken Beq a7 1 false ∷ IsTaken Beq a7 2 true
     ∷ IsTaken Beq (length held.body.tape - held.body.tape_at) 0 false
-    ∷ GivesWord held tape_word
+    ∷ GivesWord held given_cell
     ∷ []
 
 pub in-path : (s : Setting) (idle : ℕ) (csrs : CsrFile) (held : ContextState)
     → PathEnds s idle csrs held in_answers give_ready_index (given_slot s (low_word (csrs.mepc + 4))) (held_after_side AdvancesTape held)
-    (in_asked csrs.mcause (s.task_regs 17).value held s.tape_word)
+    (in_asked csrs.mcause (s.task_regs 17).value held s.given_cell)
 unfolding path_from
 in-path s idle csrs held = record {
   path = path_or (middle_path s idle csrs held in_answers) (no_path s csrs held);

@@ -1,6 +1,7 @@
 -- A task that the timer interrupts is given back as it is.
 use Rattle.std.proofs.Common.{◌≡◌, ℕ, ◌+◌, ◌*◌, List, length, refl}
 use Rattle.isa_model.specs.declared.task.Task.{Task}
+use Rattle.hart_model.specs.declared.tag.Cell.{Cell}
 use Rattle.hart_model.specs.Cells.{blank}
 use Rattle.hart_model.specs.Traps.{timer_cause}
 use Rattle.hart_model.specs.Context.{ContextState}
@@ -9,12 +10,11 @@ use Rattle.core_model.specs.Invariant.{IsBodyCase}
 use Rattle.abstract_run.specs.SymbolicPath.{AreSo}
 use Rattle.abstract_run.specs.Ways.{Leads}
 use Rattle.abstract_run.specs.Laws.{PathsLead}
-use Rattle.abstract_run.proofs.Ways.{leads-map}
 use Rattle.core_laws.specs.KernelStates.{KernelParts, IsKernel, middle_len, middle_at, give_ready_index}
 use Rattle.core_laws.specs.Starts.{IsAtTrap, IsTimerTrap, IsGivingReady}
-use Rattle.core_laws.proofs.Trapped.{trapped_setting}
+use Rattle.core_laws.proofs.Trapped.{trapped_setting, AreOwn}
 use Rattle.core_laws.proofs.ReadyPaths.{saved_slot, timer_answers, timer_asked, timer-path}
-use Rattle.core_laws.proofs.TrapEnds.{EndSays, trap-ends}
+use Rattle.core_laws.proofs.TrapEnds.{EndsSo, trap-ends}
 use Rattle.core_laws.proofs.PathStates.{context_at}
 use Rattle.core_laws.proofs.ReadyEnd.{giving-saved}
 
@@ -27,28 +27,39 @@ pub trapped-body : {tasks : List Task} {number cause : ℕ} {h : HartState} {c :
     → IsBodyCase tasks c.body
 trapped-body trap = record { is_task = trap.is_task; is_running = trap.is_running; output = trap.output; tape_at = trap.tape_at; data_words = trap.data_words }
 
--- a hart on its way to give a ready context
+-- a hart that is about to give some ready context, and one on its way there
+abbrev pub GivesSome : List Task → KernelParts → ℕ → HartState → Type 0
+GivesSome tasks k number g = (d : ContextState) × IsGivingReady tasks number (middle_at k + 4 * give_ready_index) g d
+
 abbrev pub LeadsToReady : List Task → KernelParts → ℕ → HartState → Type 0
-LeadsToReady tasks k number h =
-    (steps : ℕ) × Leads tasks k.code.words number steps (λ g. (d : ContextState) × IsGivingReady tasks number (middle_at k + 4 * give_ready_index) g d) h
+LeadsToReady tasks k number h = (steps : ℕ) × Leads tasks k.code.words number steps (GivesSome tasks k number) h
+
+-- the path of a task that the timer interrupts
+pub timer-ends : (k : KernelParts) (tasks : List Task) (number : ℕ) (h : HartState) (c : ContextState) → IsTimerTrap tasks number h c
+    → (regs : ℕ → Cell) → AreOwn c.body.count c regs
+    → EndsSo (trapped_setting tasks c.body.count regs c blank) number k h.csrs c timer_answers give_ready_index (GivesSome tasks k number)
+timer-ends k tasks number h c t regs own =
+    let trap = t.trap in
+    let s = trapped_setting tasks c.body.count regs c blank in
+    record {
+      slot = saved_slot s h.csrs.mepc;
+      after = c;
+      asked = timer_asked h.csrs.mcause;
+      ends = timer-path s (middle_len + k.restore + 1) h.csrs c;
+      so = timer-so h.csrs.mcause trap.mcause;
+      end_kept = refl;
+      there = λ g says. (
+        context_at c g,
+        giving-saved s number (middle_at k + 4 * give_ready_index) h.csrs.mepc c g says refl (trapped-body trap) trap.no_end trap.mepc own trap.slot
+            trap.valid trap.before_fuel,
+      );
+    }
 
 module _ (k : KernelParts) (kernel : IsKernel k) (paths-lead : PathsLead) where
   -- A task that the timer interrupts is led to where its context is given back.
   pub timer-leads : (tasks : List Task) (number : ℕ) (h : HartState) (c : ContextState) → IsTimerTrap tasks number h c → LeadsToReady tasks k number h
-  timer-leads tasks number h c t =
-      let trap = t.trap in
-      let s = trapped_setting tasks c.body.count h c blank in
-      let at = middle_at k + 4 * give_ready_index in
-      let steps = k.save + length timer_answers in
-      let slot = saved_slot s h.csrs.mepc in (
-        steps,
-        leads-map tasks k.code.words number steps (EndSays s number at slot c) (λ g. (d : ContextState) × IsGivingReady tasks number at g d) h
-            (λ g says. (
-              context_at c g,
-              giving-saved s number at h.csrs.mepc c g says refl (trapped-body trap) trap.no_end trap.mepc trap.registers trap.slot trap.valid
-                  trap.before_fuel,
-            ))
-            (trap-ends k kernel paths-lead tasks number c.body.count timer_cause h c blank trap tt timer_answers give_ready_index slot c
-            (timer_asked h.csrs.mcause)
-            (timer-path s (middle_len + k.restore + 1) h.csrs c) (timer-so h.csrs.mcause trap.mcause)),
-      )
+  timer-leads tasks number h c t = (
+    k.save + length timer_answers,
+    trap-ends k kernel paths-lead tasks number c.body.count timer_cause h c blank t.trap tt timer_answers give_ready_index (GivesSome tasks k number)
+        (timer-ends k tasks number h c t),
+  )

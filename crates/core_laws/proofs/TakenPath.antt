@@ -1,26 +1,37 @@
--- The way from a take that got a context to the restore part.
-use Rattle.std.proofs.Common.{◌≡◌, ℕ, ◌+◌, false, List, [], ◌∷◌, ◌++◌, replicate, get_or, set, Some, refl, ap, ◌∙◌, arith}
-use Rattle.std.proofs.lemmas.Bool.{ne_eqb}
+-- The way from a take that got a context to the restore part, and through it to MRET.
+use Rattle.std.proofs.Common.{◌≡◌, ℕ, ◌+◌, ◌*◌, Bool, true, false, ◌||◌, List, [], ◌∷◌, ◌++◌, replicate, length, get_or, set, Option, Some, refl, sym, ap, ◌∙◌, arith}
+use Rattle.std.specs.List.{list_all}
+use Rattle.std.proofs.lemmas.Bool.{ne_eqb, and_parts}
 use Rattle.isa_model.specs.declared.task.Task.{Task}
 use Rattle.isa_model.specs.declared.instr.Cmp.TheVariants.{Beq}
 use Rattle.isa_model.specs.Bits.{word_address}
+use Rattle.hart_model.specs.declared.place.Place.{Place}
+use Rattle.hart_model.specs.declared.place.Place.TheVariants.{Scr}
 use Rattle.hart_model.specs.declared.tag.Cell.{Cell}
-use Rattle.hart_model.specs.Cells.{blank}
+use Rattle.hart_model.specs.declared.tag.Tag.TheVariants.{Public}
+use Rattle.hart_model.specs.declared.tag.Mode.TheVariants.{Machine}
 use Rattle.hart_model.specs.Csrs.{CsrFile, public}
 use Rattle.hart_model.specs.Pmp.{bounds_of}
-use Rattle.hart_model.specs.Context.{ContextState, slot_address}
-use Rattle.hart_model.specs.HartState.{HartState, held_words}
-use Rattle.abstract_run.specs.AbstractCell.{AbstractCell, Zero, SlotAddress, PublicAny, PublicNumber, TaskReg, AbstractState}
-use Rattle.abstract_run.specs.Concretization.{Setting, IsSound}
+use Rattle.hart_model.specs.Context.{ContextState, slot_address, task_of}
+use Rattle.hart_model.specs.HartState.{HartState, hart_cell, held_words}
+use Rattle.hart_model.specs.Writes.{HartAndProbes}
+use Rattle.core_model.specs.Invariant.{IsHartSound}
+use Rattle.core_model.specs.Routines.{IsReadyContext, IsRestoring, IsOtherLatch, IsPartSound, HasRestored, HasRestoredTags, ComesTo, run_of_part, has_tick}
+use Rattle.abstract_run.specs.AbstractCell.{AbstractCell, Zero, SlotAddress, PublicAny, PublicNumber, TaskReg, OldSlotWord, GivenCell, AnyTagged, AbstractState}
+use Rattle.abstract_run.specs.Concretization.{Setting, Denotes, AllDenote}
 use Rattle.abstract_run.specs.Laws.{PathsLead}
 use Rattle.abstract_run.specs.SymbolicPath.{PathState, path_from, path_of, Question, IsTaken, IsAsPathSays}
 use Rattle.abstract_run.specs.Ways.{Leads}
-use Rattle.abstract_run.proofs.OneWrite.{regs-get, all-get}
+use Rattle.abstract_run.proofs.OneWrite.{regs-get}
 use Rattle.abstract_run.proofs.Ways.{leads-map, leads-then}
+use Rattle.abstract_run.proofs.PathSays.{path-sound}
 use Rattle.abstract_run.proofs.ComputedPaths.{every_word, straight}
-use Rattle.abstract_run.proofs.Denoted.{denote-instead, registers-instead}
-use Rattle.core_laws.specs.KernelStates.{KernelParts, IsKernel, middle_at, restore_at, mret_at, middle_instrs, middle_len, take_index, numbered, bound_cells, saved_cells, restored_cells, at_start}
-use Rattle.core_laws.proofs.TakenStands.{taken_cells}
+use Rattle.abstract_run.proofs.PartRuns.{comes-map, comes-both, run-pc}
+use Rattle.core_laws.specs.KernelStates.{KernelParts, IsKernel, middle_at, restore_at, mret_at, middle_instrs, middle_len, take_index, numbered, bound_cells}
+use Rattle.core_laws.proofs.PartLeads.{part-leads}
+use Rattle.core_laws.proofs.PathStates.{latch-public, are-public}
+use Rattle.core_laws.proofs.Trapped.{AreOwn, registers_of}
+use Rattle.core_laws.proofs.TakenStands.{taken_setting, taken-setting-sound, taken_cells, taken_state, pc_of, public-is, words-stand}
 
 -- the four bounds of the task in the protection
 abbrev pub with_bounds : Task → List ℕ → List ℕ
@@ -62,59 +73,136 @@ pub taken-path : (s : Setting) (csrs : CsrFile) (c : ContextState) (pc idle : �
 unfolding path_from
 taken-path s csrs c pc idle = refl
 
--- what is left of it where the restore part begins
-weakened : (s : Setting) (number : ℕ) (k : KernelParts) (csrs : CsrFile) (c : ContextState) (pc : ℕ) (g : HartState)
-    → IsAsPathSays s number (middle_at k) (end_state s csrs c pc) g
-    → IsAsPathSays s number (restore_at k) (at_start (saved_cells s PublicAny) (task_csrs s.task pc csrs) c) g
-weakened s number k csrs c pc g says =
-    let x6 : get_or g.regs 6 blank ≡ public pc = regs-get s (end_regs pc) g.regs 5 says.cells.regs in
-    let words : List AbstractCell = PublicNumber pc ∷ numbered TaskReg 1 31 ++ bound_cells s.task in
-    let word : get_or (held_words g.held) 0 blank ≡ public pc = all-get s words (held_words g.held) 0 says.cells.slot in
-    record {
-      mode = says.mode;
-      csrs = says.csrs;
-      csrs_sound = says.csrs_sound;
-      pc = says.pc ∙ omega arith;
-      held = says.held;
-      slot = says.slot;
-      cells = record {
-        regs = registers-instead s (end_regs pc) g.regs 6 PublicAny says.cells.regs (ap (λ (x : Cell). x.tag) x6);
-        port_a = ap (λ (x : Cell). x.tag) says.cells.port_a;
-        port_b = ap (λ (x : Cell). x.tag) says.cells.port_b;
-        res = says.cells.res;
-        load = ap (λ (x : Cell). x.tag) says.cells.load;
-        store = says.cells.store;
-        scr = says.cells.scr;
-        zero = says.cells.zero;
-        slot = denote-instead s words (held_words g.held) 0 PublicAny says.cells.slot (ap (λ (x : Cell). x.tag) word);
-        no_data = refl;
-      };
-      registers = says.registers;
-      zero_word = says.zero_word;
-      data_words = says.data_words;
-    }
+-- cells that are known exactly are the same in two rows
+abbrev is_exact : AbstractCell → Bool
+is_exact (PublicNumber value) = true
+is_exact (TaskReg number) = true
+is_exact cell = false
 
-module _ (k : KernelParts) (kernel : IsKernel k) (paths-lead : PathsLead) (s : Setting) (ok : IsSound s) (number : ℕ)
-    (csrs : CsrFile) (c : ContextState) (pc : ℕ) where
+exact-same : (s : Setting) (a : AbstractCell) (c d : Cell) → is_exact a ≡ true → Denotes s a c → Denotes s a d → c ≡ d
+exact-same s (PublicNumber value) c d e one two = one ∙ sym two
+exact-same s (TaskReg number) c d e one two = one.2 ∙ sym two.2
+exact-same s Zero c d e one two = absurd (cc e)
+exact-same s SlotAddress c d e one two = absurd (cc e)
+exact-same s PublicAny c d e one two = absurd (cc e)
+exact-same s (OldSlotWord index) c d e one two = absurd (cc e)
+exact-same s GivenCell c d e one two = absurd (cc e)
+exact-same s AnyTagged c d e one two = absurd (cc e)
+
+pub rows-same : (s : Setting) (abstract : List AbstractCell) (cs ds : List Cell) → list_all is_exact abstract ≡ true → AllDenote s abstract cs
+    → AllDenote s abstract ds → cs ≡ ds
+rows-same s [] [] [] e one two = refl
+rows-same s [] [] (d ∷ ds) e one two = absurd two
+rows-same s [] (c ∷ cs) ds e one two = absurd one
+rows-same s (a ∷ abstract) [] ds e one two = absurd one
+rows-same s (a ∷ abstract) (c ∷ cs) [] e one two = absurd two
+rows-same s (a ∷ abstract) (c ∷ cs) (d ∷ ds) e one two =
+    let both = and_parts (is_exact a) (list_all is_exact abstract) e in
+    let same = exact-same s a c d both.0 one.0 two.0 in
+    let more = rows-same s abstract cs ds both.1 one.1 two.1 in
+    ap (λ x. x ∷ cs) same ∙ ap (λ xs. d ∷ xs) more
+
+-- The words of a slot of which no less is known than of a ready context's are those of the context.
+pub words-are : (tasks : List Task) (c : ContextState) → IsReadyContext tasks c → (words : List Cell)
+    → AllDenote (taken_setting tasks c) (PublicNumber (pc_of c) ∷ numbered TaskReg 1 31 ++ bound_cells (task_of c.body)) words → words ≡ c.words
+words-are tasks c r words all =
+    rows-same (taken_setting tasks c) (PublicNumber (pc_of c) ∷ numbered TaskReg 1 31 ++ bound_cells (task_of c.body)) words c.words refl all (words-stand tasks c r)
+
+-- so what a hart holds is the context
+pub held-as-before : (tasks : List Task) (c : ContextState) → IsReadyContext tasks c → (o : Option ContextState) → o ≡ Some (record c { words = held_words o })
+    → AllDenote (taken_setting tasks c) (PublicNumber (pc_of c) ∷ numbered TaskReg 1 31 ++ bound_cells (task_of c.body)) (held_words o) → o ≡ Some c
+held-as-before tasks c r o held all = held ∙ ap (λ ws. Some (record c { words = ws })) (words-are tasks c r (held_words o) all)
+
+-- What is so of a hart at MRET, after the restore part.
+pub record IsRestored (tasks : List Task) (number at : ℕ) (csrs : CsrFile) (c : ContextState) (h : HartState) : Type 0 where
+  pub mode : h.csrs.mode ≡ Machine
+  pub csrs_are : h.csrs ≡ record csrs { mscratch = h.csrs.mscratch; is_timer_pending = h.csrs.is_timer_pending }
+  pub pc : h.pc ≡ at
+  pub sound : IsHartSound tasks number h
+  pub held : h.held ≡ Some c
+  pub scratch : h.csrs.mscratch ≡ public (slot_address c.slot)
+  pub registers : AreOwn c.body.count c (registers_of h)
+  pub latches : (p : Place) → IsOtherLatch p → (hart_cell h p).tag ≡ Public
+
+module _ (k : KernelParts) (kernel : IsKernel k) (paths-lead : PathsLead) (tasks : List Task) (number : ℕ) (c : ContextState) (r : IsReadyContext tasks c)
+    (csrs : CsrFile) where
+  -- a hart that is to restore the context, with the task's CSRs
+  abbrev pub Restoring : HartState → Type 0
+  Restoring g =
+      IsRestoring tasks number (restore_at k) g c
+      × (g.csrs ≡ record (task_csrs (task_of c.body) (pc_of c) csrs) { mscratch = g.csrs.mscratch; is_timer_pending = g.csrs.is_timer_pending })
+
+  pub restoring : (g : HartState) → IsAsPathSays (taken_setting tasks c) number (middle_at k) (end_state (taken_setting tasks c) csrs c (pc_of c)) g → Restoring g
+  restoring g says =
+      let s = taken_setting tasks c in
+      let ok = taken-setting-sound tasks c r in
+      let p = end_state s csrs c (pc_of c) in (
+        record {
+          mode = says.mode;
+          sound = path-sound s ok number (middle_at k) p g says;
+          pc = says.pc ∙ omega arith;
+          held = held-as-before tasks c r g.held says.held says.cells.slot;
+          context = r;
+          x5 = regs-get s (end_regs (pc_of c)) g.regs 4 says.cells.regs;
+          scratch = says.cells.scr;
+          latches = λ q is. latch-public s (end_cells s (pc_of c)) g (are-public (end_cells s (pc_of c)) refl) says.cells q is;
+        },
+        says.csrs,
+      )
+
   -- from the take to the restore part
-  to-restore : (h : HartState) → IsAsPathSays s number (middle_at k) (record { cells = taken_cells s pc; index = take_index + 1; csrs = csrs; held = c }) h
-      → Leads s.tasks k.code.words number 12 (IsAsPathSays s number (restore_at k) (at_start (saved_cells s PublicAny) (task_csrs s.task pc csrs) c)) h
+  pub to-restore : (h : HartState) → IsAsPathSays (taken_setting tasks c) number (middle_at k) (taken_state (taken_setting tasks c) csrs c) h
+      → Leads tasks k.code.words number 12 Restoring h
   to-restore h says =
-      let idle = middle_len + k.restore + 1 in
+      let s = taken_setting tasks c in
+      let ok = taken-setting-sound tasks c r in
       let low = ok.slot in
-      leads-map s.tasks k.code.words number 12 (IsAsPathSays s number (middle_at k) (end_state s csrs c pc))
-      (IsAsPathSays s number (restore_at k) (at_start (saved_cells s PublicAny) (task_csrs s.task pc csrs) c)) h
-      (λ g there. weakened s number k csrs c pc g there)
-      (paths-lead every_word s number (middle_at k) k.code.words (middle_instrs idle) (straight 12)
-      (record { cells = taken_cells s pc; index = take_index + 1; csrs = csrs; held = c }) (record { end = end_state s csrs c pc; asked = taken_asks s }) h
-      ok kernel.linked.middle (taken-path s csrs c pc idle) (ne_eqb (slot_address s.slot) 0 (λ e. absurd (omega (arith, e))), tt) says)
+      leads-map tasks k.code.words number 12 (IsAsPathSays s number (middle_at k) (end_state s csrs c (pc_of c))) Restoring h (λ g there. restoring g there)
+      (paths-lead every_word s number (middle_at k) k.code.words (middle_instrs (middle_len + k.restore + 1)) (straight 12)
+      (taken_state s csrs c) (record { end = end_state s csrs c (pc_of c); asked = taken_asks s }) h
+      ok kernel.linked.middle (taken-path s csrs c (pc_of c) (middle_len + k.restore + 1))
+      (ne_eqb (slot_address s.slot) 0 (λ e. absurd (omega (arith, e))), tt) says)
 
-  -- and through it to the return
-  pub to-mret : (h : HartState) → IsAsPathSays s number (middle_at k) (record { cells = taken_cells s pc; index = take_index + 1; csrs = csrs; held = c }) h
-      → Leads s.tasks k.code.words number (12 + k.restore) (IsAsPathSays s number (mret_at k) (at_start (restored_cells s) (task_csrs s.task pc csrs) c)) h
+  -- each whole run of the restore part restores
+  pub runs-restored : (g : HartState) → Restoring g → (ticks : List Bool) → length ticks ≡ k.restore
+      → ComesTo (λ a. IsRestored tasks number (mret_at k) (task_csrs (task_of c.body) (pc_of c) csrs) c a.hart) (run_of_part k.code.words ticks g)
+  runs-restored g at ticks same =
+      let run = run_of_part k.code.words ticks g in
+      let file = task_csrs (task_of c.body) (pc_of c) csrs in
+      let Values : HartAndProbes → Type 0 = λ a. HasRestored ticks g c a.hart in
+      let Tags : HartAndProbes → Type 0 = λ a. HasRestoredTags c a.hart in
+      let Sound : HartAndProbes → Type 0 = IsPartSound tasks number c in
+      let At : HartAndProbes → Type 0 = λ a. a.hart.pc ≡ g.pc + 4 * length ticks in
+      let values = kernel.restores_values tasks number g c ticks at.0 same in
+      let tags = kernel.restores_explained.tags tasks number g c ticks at.0 same in
+      let sound = kernel.restores_explained.sound tasks number g c ticks at.0 (omega (arith, same)) in
+      let pc = at.0.pc in
+      comes-map (λ a. (Values a × Tags a) × (Sound a × At a)) (λ a. IsRestored tasks number (mret_at k) file c a.hart) run
+      (λ a all. record {
+        mode = ap (λ (x : CsrFile). x.mode) all.0.0.csrs ∙ at.0.mode;
+        csrs_are = all.0.0.csrs
+            ∙ ap (λ (x : CsrFile). record x { mscratch = a.hart.csrs.mscratch; is_timer_pending = g.csrs.is_timer_pending || has_tick ticks }) at.1
+            ∙ ap (λ b. record file { mscratch = a.hart.csrs.mscratch; is_timer_pending = b }) (sym (ap (λ (x : CsrFile). x.is_timer_pending) all.0.0.csrs));
+        pc = (let there = all.1.1 in omega (arith, pc, same, there));
+        sound = all.1.0.sound;
+        held = all.0.0.held;
+        scratch = public-is a.hart.csrs.mscratch (slot_address c.slot) all.0.0.scratch (all.0.1.latches Scr tt);
+        registers = all.0.1.registers;
+        latches = all.0.1.latches;
+      })
+      (comes-both (λ a. Values a × Tags a) (λ a. Sound a × At a) run (comes-both Values Tags run values tags)
+      (comes-both Sound At run sound (run-pc Values k.code.words ticks g values)))
+
+  -- The restore part leads on to MRET.
+  restores : (g : HartState) → Restoring g
+      → Leads tasks k.code.words number k.restore (IsRestored tasks number (mret_at k) (task_csrs (task_of c.body) (pc_of c) csrs) c) g
+  restores g at =
+      part-leads tasks k.code.words number c (IsRestored tasks number (mret_at k) (task_csrs (task_of c.body) (pc_of c) csrs) c) k.restore g
+      (λ ticks le. kernel.restores_explained.sound tasks number g c ticks at.0 le) (λ ticks same. runs-restored g at ticks same)
+
+  -- and so the take does
+  pub to-mret : (h : HartState) → IsAsPathSays (taken_setting tasks c) number (middle_at k) (taken_state (taken_setting tasks c) csrs c) h
+      → Leads tasks k.code.words number (12 + k.restore) (IsRestored tasks number (mret_at k) (task_csrs (task_of c.body) (pc_of c) csrs) c) h
   to-mret h says =
-      leads-then s.tasks k.code.words number 12 k.restore
-      (IsAsPathSays s number (restore_at k) (at_start (saved_cells s PublicAny) (task_csrs s.task pc csrs) c))
-      (IsAsPathSays s number (mret_at k) (at_start (restored_cells s) (task_csrs s.task pc csrs) c)) h
-      (to-restore h says)
-      (λ g saved. kernel.restores s number (task_csrs s.task pc csrs) c g ok saved)
+      leads-then tasks k.code.words number 12 k.restore Restoring (IsRestored tasks number (mret_at k) (task_csrs (task_of c.body) (pc_of c) csrs) c) h
+      (to-restore h says) (λ g at. restores g at)

@@ -22,7 +22,8 @@ use Rattle.abstract_run.specs.SymbolicPath.{PathState, IsAsPathSays}
 use Rattle.abstract_run.proofs.OneWrite.{own-truthful}
 use Rattle.abstract_run.proofs.Denoted.{denote-next, denote-end, denote-repeated, denote-registers}
 use Rattle.core_laws.specs.KernelStates.{KernelParts, middle_at, take_index, numbered, kernel_regs, bound_cells, saved_cells}
-use Rattle.core_laws.specs.Starts.{HasPublicLatches, IsReadyContext, IsLatchPlace}
+use Rattle.core_model.specs.Routines.{IsReadyContext, IsLatchPlace}
+use Rattle.core_laws.specs.Starts.{HasPublicLatches}
 use Rattle.core_laws.proofs.Numbered.{denote-numbered}
 
 -- the task of a context, with the words of its slot as its registers
@@ -35,7 +36,7 @@ taken_setting tasks c = record {
   slot = c.slot;
   task_regs = slot_word c;
   old_words = slot_word c;
-  tape_word = blank;
+  given_cell = blank;
 }
 
 pub taken-setting-sound : (tasks : List Task) (c : ContextState) → IsReadyContext tasks c → IsSound (taken_setting tasks c)
@@ -45,7 +46,7 @@ taken-setting-sound tasks c r = record {
   regs = r.ready.saved_registers;
   words = λ i low high. own-truthful tasks c.body.task_no (task_of c.body) c.body.count (latches.Reg i) (slot_word c i)
       r.ready.body.is_task (r.ready.saved_registers i low high);
-  tape_word = tt;
+  given_cell = tt;
 }
 
 -- a public cell of a known number
@@ -64,7 +65,7 @@ abbrev pub taken_state : Setting → CsrFile → ContextState → PathState
 taken_state s csrs c = record { cells = taken_cells s (pc_of c); index = take_index + 1; csrs = csrs; held = c }
 
 -- the data words of a body say the truth, and there are none past the end
-data-truthful : (tasks : List Task) (b : BodyState) → IsBodyCase tasks b → (i : ℕ) → IsTruthful tasks (data_word b i)
+pub data-truthful : (tasks : List Task) (b : BodyState) → IsBodyCase tasks b → (i : ℕ) → IsTruthful tasks (data_word b i)
 data-truthful tasks b body i = go (leb_tells (length b.data_words) i)
   where
     go : ((leb (length b.data_words) i ≡ true) × (length b.data_words ≤ i))
@@ -73,17 +74,21 @@ data-truthful tasks b body i = go (leb_tells (length b.data_words) i)
     go (inl past) = subst (IsTruthful tasks) (sym (get_or_past b.data_words i blank past.1)) tt
     go (inr low) = own-truthful tasks b.task_no (task_of b) b.count (latches.Mem (b.data_at + 4 * i)) (data_word b i) body.is_task (body.data_words i low.1)
 
+-- registers that are public, x5 being the slot's address
+pub kernel-regs-stand : (s : Setting) (regs : List Cell) → length regs ≡ 32 → ((i : ℕ) → 1 ≤ i → (get_or regs i blank).tag ≡ Public)
+    → get_or regs 5 blank ≡ public (slot_address s.slot) → RegsDenote s kernel_regs regs
+kernel-regs-stand s regs len each x5 =
+    denote-registers s PublicAny (replicate 4 PublicAny ++ SlotAddress ∷ replicate 26 PublicAny) regs (omega (arith, len))
+    (denote-repeated s PublicAny 1 4 (SlotAddress ∷ replicate 26 PublicAny) regs (omega (arith, len)) (λ j low high. each j low)
+    (denote-next s SlotAddress (replicate 26 PublicAny) regs 5 (omega (arith, len)) x5
+    (denote-repeated s PublicAny 6 26 [] regs (omega (arith, len)) (λ j low high. each j (omega arith)) (denote-end s regs 32 (omega (arith, len))))))
+
 module _ (tasks : List Task) (c : ContextState) (r : IsReadyContext tasks c) where
   -- the registers
   regs-stand : (regs : List Cell) → length regs ≡ 32 → ((i : ℕ) → 1 ≤ i → (get_or regs i blank).tag ≡ Public)
       → get_or regs 5 blank ≡ public (slot_address c.slot)
       → RegsDenote (taken_setting tasks c) kernel_regs regs
-  regs-stand regs len each x5 =
-      let t = taken_setting tasks c in
-      denote-registers t PublicAny (replicate 4 PublicAny ++ SlotAddress ∷ replicate 26 PublicAny) regs (omega (arith, len))
-      (denote-repeated t PublicAny 1 4 (SlotAddress ∷ replicate 26 PublicAny) regs (omega (arith, len)) (λ j low high. each j low)
-      (denote-next t SlotAddress (replicate 26 PublicAny) regs 5 (omega (arith, len)) x5
-      (denote-repeated t PublicAny 6 26 [] regs (omega (arith, len)) (λ j low high. each j (omega arith)) (denote-end t regs 32 (omega (arith, len))))))
+  regs-stand regs len each x5 = kernel-regs-stand (taken_setting tasks c) regs len each x5
 
   -- the words of the slot
   abbrev words_known : List AbstractCell

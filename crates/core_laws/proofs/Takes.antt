@@ -16,7 +16,7 @@ use Rattle.hart_model.specs.StepResult.{Wants}
 use Rattle.hart_model.specs.HartStep.{hart_step, answer_take, take_cell, loaded_writes}
 use Rattle.hart_model.specs.MachineStep.{machine_instr_step, NeedsQueue, reach_of, by_reach, load_reach, target_of}
 use Rattle.core_model.specs.Explained.{IsExplained}
-use Rattle.abstract_run.specs.Ways.{ticked_if}
+use Rattle.core_model.specs.Routines.{ticked_if}
 use Rattle.abstract_run.proofs.Paths.{machine-step-at}
 use Rattle.core_laws.specs.KernelStates.{KernelParts, IsLinked, middle_at, take_index}
 use Rattle.core_laws.specs.Starts.{HasPublicLatches, IsEmptyHanded}

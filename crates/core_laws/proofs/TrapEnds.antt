@@ -13,10 +13,10 @@ use Rattle.abstract_run.specs.Concretization.{Setting, IsSound, Denotes}
 use Rattle.abstract_run.specs.SymbolicPath.{Question, AreSo, IsAsPathSays}
 use Rattle.abstract_run.specs.Ways.{Leads}
 use Rattle.abstract_run.specs.Laws.{PathsLead}
-use Rattle.abstract_run.proofs.Ways.{leads-map}
 use Rattle.core_laws.specs.KernelStates.{KernelParts, IsKernel, middle_len, middle_at}
 use Rattle.core_laws.specs.Starts.{IsAtTrap, HasPublicLatches}
-use Rattle.core_laws.proofs.Trapped.{trapped_setting, trap-setting-sound, trap-leads}
+use Rattle.core_laws.proofs.Trapped.{trapped_setting, trap-setting-sound, AreOwn}
+use Rattle.core_laws.proofs.Saved.{EndsThere, trap-leads}
 use Rattle.core_laws.proofs.PathStates.{has-public-latches, slot-denoted, slot-len, path-truthful}
 use Rattle.core_laws.proofs.ReadyPaths.{PathEnds}
 
@@ -47,21 +47,40 @@ end-says s number base idle csrs held answers index slot after asked sound four 
       denoted = subst Words e.slot_is (slot-denoted says);
     }
 
+-- A path of the middle from a saved task, by these answers, with the slot's words and the context at its end, which has the end of the one
+-- before: all is so that it asks, and each hart of which its end says so stands there.
+pub record EndsSo (s : Setting) (number : ℕ) (k : KernelParts) (csrs : CsrFile) (c : ContextState) (answers : List Bool) (index : ℕ)
+    (There : HartState → Type 0) : Type 0 where
+  pub slot : List AbstractCell
+  pub after : ContextState
+  pub asked : List Question
+  pub ends : PathEnds s (middle_len + k.restore + 1) csrs c answers index slot after asked
+  pub so : AreSo asked
+  pub end_kept : after.end ≡ c.end
+  pub there : (g : HartState) → EndSays s number (middle_at k + 4 * index) slot after g → There g
+
+-- such a path is one from the saved task to where it ends
+abbrev pub one-end : {tasks : List Task} {number n cause : ℕ} {h : HartState} {c : ContextState} (trap : IsAtTrap tasks number n cause h c) (given_cell : Cell)
+    (truthful : IsTruthful tasks given_cell) (k : KernelParts) (answers : List Bool) (index : ℕ) (There : HartState → Type 0)
+    (regs : ℕ → Cell) → AreOwn n c regs → EndsSo (trapped_setting tasks n regs c given_cell) number k h.csrs c answers index There
+    → EndsThere trap given_cell truthful regs k h.csrs c answers There
+one-end {tasks = tasks} {number = number} {n = n} {h = h} {c = c} trap given_cell truthful k answers index There regs own e =
+    let So : List Question → Type 0 = λ qs. AreSo qs in
+    record {
+      path = e.ends.path;
+      is_path = e.ends.is_path;
+      so = subst So (sym e.ends.asked_is) e.so;
+      there = λ g says. e.there g
+          (end-says (trapped_setting tasks n regs c given_cell) number (middle_at k) (middle_len + k.restore + 1) h.csrs c answers index e.slot e.after e.asked
+          (trap-setting-sound trap given_cell truthful regs own) trap.bound_registers e.ends g says);
+    }
+
 module _ (k : KernelParts) (kernel : IsKernel k) (paths-lead : PathsLead) where
-  -- A trapped task is led to the end of each path of the middle of which all is so that it asks.
-  pub trap-ends : (tasks : List Task) (number n cause : ℕ) (h : HartState) (c : ContextState) (tape_word : Cell) → IsAtTrap tasks number n cause h c
-      → IsTruthful tasks tape_word
-      → (answers : List Bool) (index : ℕ) (slot : List AbstractCell) (after : ContextState) (asked : List Question)
-      → PathEnds (trapped_setting tasks n h c tape_word) (middle_len + k.restore + 1) h.csrs c answers index slot after asked → AreSo asked
-      → Leads tasks k.code.words number (k.save + length answers)
-      (EndSays (trapped_setting tasks n h c tape_word) number (middle_at k + 4 * index) slot after) h
-  trap-ends tasks number n cause h c tape_word trap tape_truthful answers index slot after asked e so =
-      let s = trapped_setting tasks n h c tape_word in
-      let idle = middle_len + k.restore + 1 in
-      let sound : IsSound s = trap-setting-sound trap tape_word tape_truthful in
-      let Ended : HartState → Type 0 = IsAsPathSays s number (middle_at k) e.path.end in
-      let Says : HartState → Type 0 = EndSays s number (middle_at k + 4 * index) slot after in
-      let So : List Question → Type 0 = λ qs. AreSo qs in
-      leads-map tasks k.code.words number (k.save + length answers) Ended Says h
-      (λ g ended. end-says s number (middle_at k) idle h.csrs c answers index slot after asked sound trap.bound_registers e g ended)
-      (trap-leads trap tape_word tape_truthful k kernel paths-lead h.csrs c refl refl answers e.path e.is_path (subst So (sym e.asked_is) so))
+  -- A trapped task is led there by such paths.
+  pub trap-ends : (tasks : List Task) (number n cause : ℕ) (h : HartState) (c : ContextState) (given_cell : Cell) → IsAtTrap tasks number n cause h c
+      → IsTruthful tasks given_cell → (answers : List Bool) (index : ℕ) (There : HartState → Type 0)
+      → ((regs : ℕ → Cell) → AreOwn n c regs → EndsSo (trapped_setting tasks n regs c given_cell) number k h.csrs c answers index There)
+      → Leads tasks k.code.words number (k.save + length answers) There h
+  trap-ends tasks number n cause h c given_cell trap tape_truthful answers index There ends =
+      trap-leads trap given_cell tape_truthful k kernel paths-lead h.csrs c refl refl answers There
+      (λ regs own. one-end trap given_cell tape_truthful k answers index There regs own (ends regs own))

@@ -27,7 +27,7 @@ use Rattle.core_laws.proofs.Proved.{kernel-harts, emitted-is-kernel}
 use Rattle.core_laws.proofs.FromHarts.{stays-sound, outputs-stay, one-home-each}
 
 -- at a place: addi x10,x0,42; addi x17,x0,1; ecall; addi x17,x0,0; ecall
-abbrev task_at : ℕ → Task
+abbrev pub task_at : ℕ → Task
 task_at t = record {
   code_at = code_place t;
   data_at = data_place t;
@@ -41,14 +41,14 @@ task_at t = record {
 abbrev plan : Plan
 plan = record { quanta = []; tail = 4096 }
 
-abbrev two_tasks : Loaded
+abbrev pub two_tasks : Loaded
 two_tasks = record { harts = 2; slots = 1; plans = plan ∷ plan ∷ []; tasks = task_at 0 ∷ task_at 1 ∷ []; worlds = []; events = []; order = [] }
 
 -- a core may be made of it
 plan_fits : IsPlanWithinLimits plan
 plan_fits = record { tail_low = lit≤ tt; tail_high = lit≤ tt; quanta = All-nil _; quanta_high = lit≤ tt }
 
-valid_at : (t : ℕ) → t < 2 → IsValidTask (task_at t)
+pub valid_at : (t : ℕ) → t < 2 → IsValidTask (task_at t)
 valid_at t low = record {
   code_aligned = omega arith;
   data_aligned = omega arith;
@@ -70,7 +70,7 @@ at_places zero task low = record { code_at = refl; data_at = refl; valid = valid
 at_places (suc zero) task low = record { code_at = refl; data_at = refl; valid = valid_at 1 low }
 at_places (suc (suc t)) task low = absurd (omega arith)
 
-two_tasks_load : IsLoaded two_tasks
+pub two_tasks_load : IsLoaded two_tasks
 two_tasks_load = record {
   limits = record {
     harts_low = lit≤ tt;
@@ -94,21 +94,21 @@ two_tasks_load = record {
 }
 
 -- hart 0 takes task 0, restores it, and executes one of its instructions
-abbrev one_instr : List Event
+abbrev pub one_instr : List Event
 one_instr = replicate 77 (Go 0)
 
 abbrev in_task : CoreState
 in_task = core_after two_tasks emitted_parts.code one_instr
 
-abbrev hart_in_task : HartState
+abbrev pub hart_in_task : HartState
 hart_in_task = get_or in_task.harts 0 (boot_hart 0 0)
 
-is_in_task : (slice_get in_task.harts 0 ≡ Some hart_in_task) × (hart_in_task.csrs.mode ≡ User)
+pub is_in_task : (slice_get in_task.harts 0 ≡ Some hart_in_task) × (hart_in_task.csrs.mode ≡ User)
 unfolding core_from user_step machine_step is_allowed_by csr_cell with_csr
 is_in_task = (refl, refl)
 
 -- So it is where the undisturbed run of a task is.
-is_in_user_case : (c : ContextState) × IsUserCase two_tasks.tasks hart_in_task c
+pub is_in_user_case : (c : ContextState) × IsUserCase two_tasks.tasks hart_in_task c
 is_in_user_case =
     ((stays-sound kernel-harts emitted_parts emitted-is-kernel two_tasks two_tasks_load one_instr).harts
     0 hart_in_task is_in_task.0).user is_in_task.1

@@ -21,7 +21,7 @@ use Rattle.hart_model.specs.UserLaws.{IsTaskLatch, IsRunLatch, WritesOwn, IsOwnO
 use Rattle.hart_model.proofs.UserWritesOwn.{run_place, cell_of_run}
 use Rattle.hart_model.proofs.UserStepWrites.{user_step_writes_own}
 use Rattle.core_model.specs.Explained.{IsExplained}
-use Rattle.core_laws.specs.Starts.{IsUserState}
+use Rattle.core_model.specs.Routines.{IsUserState}
 use Rattle.core_laws.proofs.OwnCells.{IsNext, entry-explained}
 use Rattle.core_laws.proofs.UserStands.{at-run-alone, latch-own, values-alone}
 use Rattle.core_laws.proofs.UserTruth.{HasStepped}

@@ -26,14 +26,15 @@ use Rattle.hart_model.proofs.UserWritesOwn.{run_place}
 use Rattle.hart_model.proofs.UserStepIsAlone.{step_is, wrote}
 use Rattle.core_model.specs.Explained.{IsExplained}
 use Rattle.core_model.specs.Invariant.{IsTruthful}
-use Rattle.core_laws.specs.Starts.{IsUserState, IsAtTrap}
+use Rattle.core_model.specs.Routines.{IsUserState}
+use Rattle.core_laws.specs.Starts.{IsAtTrap}
 use Rattle.core_laws.specs.UserLeads.{UserStepLeads}
 use Rattle.core_laws.proofs.AloneNext.{IsOther, other-values, next-state}
 use Rattle.core_laws.proofs.OwnCells.{truthful-next}
 use Rattle.core_laws.proofs.UserStands.{at-run-alone, values-alone}
 use Rattle.core_laws.proofs.UserTruth.{HasStepped, all-truthful, reg-cell}
 use Rattle.core_laws.proofs.UserAfter.{writes-own, value-written, latch-next, all-explained}
-use Rattle.core_laws.proofs.UserTraps.{counted, at-trap, user-mode-step}
+use Rattle.core_laws.proofs.UserTraps.{counted, same-cause, at-trap, user-mode-step}
 
 -- an effect after which the hart has trapped by a call writes nothing
 called_writes : (T : Task) (a : HartAndProbes) (writes : List Write) (next : Next) → HasShapeBy T writes next
@@ -108,7 +109,7 @@ module _ (tasks : List Task) (number : ℕ) (h : HartState) (c : ContextState) (
 
     trapped : IsAtTrap tasks number n cause traps.hart (counted c (n + 1))
     trapped =
-        at-trap tasks number h c is traps.hart (n + 1) cause traps.pc traps.csrs traps.registers traps.zero_word traps.held
+        at-trap tasks number h c is traps.hart (n + 1) cause traps.probes traps.step traps.pc traps.csrs traps.registers traps.zero_word traps.held
         (all-truthful tasks number h traps.hart c (counted c (n + 1)) is trap_stepped run_truthful)
 
     -- registers have what is written, where the run alone keeps them
@@ -162,6 +163,7 @@ module _ (tasks : List Task) (number : ℕ) (h : HartState) (c : ContextState) (
             output = faults.output;
           },
         ))));
+        at_trap = λ x e. same-cause tasks number c.body.count traps.hart (counted c (n + 1)) cause x e (trapped cause traps);
       }
 
   -- A call.
@@ -190,4 +192,5 @@ module _ (tasks : List Task) (number : ℕ) (h : HartState) (c : ContextState) (
             serves = calls.serves;
           },
         ))));
+        at_trap = λ x e. same-cause tasks number c.body.count traps.hart (counted c (n + 1)) 8 x e (trapped 8 traps);
       }

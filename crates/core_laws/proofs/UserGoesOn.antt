@@ -19,7 +19,7 @@ use Rattle.hart_model.specs.UserStep.{is_fuel_used}
 use Rattle.hart_model.specs.UserLaws.{IsTaskLatch, IsRunLatch, alone_effect, written_value, GoesOnAlone}
 use Rattle.hart_model.proofs.UserWritesOwn.{run_place}
 use Rattle.core_model.specs.Invariant.{AreCsrsSound, IsTruthful, IsOwn, IsOwnOrPublic, IsRunning, IsUserCase}
-use Rattle.core_laws.specs.Starts.{IsUserState}
+use Rattle.core_model.specs.Routines.{IsUserState}
 use Rattle.core_laws.specs.UserLeads.{UserStepLeads}
 use Rattle.core_laws.proofs.AloneNext.{next-state}
 use Rattle.core_laws.proofs.OwnCells.{IsNext, own-next, public-next, truthful-next}
@@ -205,4 +205,5 @@ module _ (tasks : List Task) (number : ℕ) (h : HartState) (c : ContextState) (
         task_no = refl;
         slot = refl;
         outcome = inl user_state;
+        at_trap = λ cause e. absurd (cc e);
       }

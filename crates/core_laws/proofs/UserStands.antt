@@ -19,7 +19,7 @@ use Rattle.hart_model.specs.UserLaws.{IsTaskLatch, IsRunLatch, IsAtRunAlone}
 use Rattle.hart_model.proofs.UserWrites.{IsDataAt, data_at, data_index, value_of_register, value_of_word}
 use Rattle.hart_model.proofs.UserWritesOwn.{run_place}
 use Rattle.core_model.specs.Invariant.{IsOwn, IsOwnOrPublic}
-use Rattle.core_laws.specs.Starts.{IsUserState}
+use Rattle.core_model.specs.Routines.{IsUserState}
 use Rattle.core_laws.proofs.OwnCells.{own-value, own-is-public}
 
 pmp_is : (pmp : PmpFile) (T : Task) → pmp.cfg ≡ boot_pmpcfg → pmp.addrs ≡ bounds_of T → pmp ≡ task_pmp T

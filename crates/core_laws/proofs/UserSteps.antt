@@ -12,11 +12,11 @@ use Rattle.hart_model.specs.UserStep.{is_fuel_used}
 use Rattle.hart_model.specs.UserLaws.{GoesOnAlone, FaultsAlone, CallsAlone, IsInstrAlone}
 use Rattle.hart_model.proofs.UserStepIsAlone.{user_step_is_alone}
 use Rattle.core_model.specs.Explained.{IsExplained}
-use Rattle.core_laws.specs.Starts.{IsUserState}
+use Rattle.core_model.specs.Routines.{IsUserState}
 use Rattle.core_laws.specs.UserLeads.{IsUserOutcome, UserStepLeads}
 use Rattle.core_laws.proofs.AloneNext.{still-runs}
 use Rattle.core_laws.proofs.UserStands.{at-run-alone, user_interrupt, interrupt-is}
-use Rattle.core_laws.proofs.UserTraps.{user-mode-step, interrupted, interrupt-step, at-interrupt}
+use Rattle.core_laws.proofs.UserTraps.{same-cause, user-mode-step, interrupted, interrupt-step, at-interrupt}
 use Rattle.core_laws.proofs.UserFaults.{fault-leads, call-leads}
 use Rattle.core_laws.proofs.UserGoesOn.{goes-leads}
 
@@ -34,6 +34,7 @@ module _ (tasks : List Task) (number : ℕ) (code : List ℕ) (h : HartState) (c
     task_no = refl;
     slot = refl;
     outcome = outcome;
+    at_trap = λ x e. same-cause tasks number c.body.count (interrupted tasks number h c is cause) c cause x e (at-interrupt tasks number h c is cause some);
   }
 
   by_instr_leads : interrupt_of h.csrs (is_fuel_used h.held) ≡ None → (alone_at (task_of c.body) c.body.count).end ≡ None → c.body.count < c.body.fuel
@@ -56,7 +57,7 @@ module _ (tasks : List Task) (number : ℕ) (code : List ℕ) (h : HartState) (c
       → UserStepLeads tasks code number h c
   by_tests true pending test interrupt =
       by_interrupt_leads fuel_cause interrupt
-      (inr (inr (inl (record { trap = at-interrupt tasks number h c is fuel_cause; is_used = eqb-true c.body.count c.body.fuel test }))))
+      (inr (inr (inl (record { trap = at-interrupt tasks number h c is fuel_cause interrupt; is_used = eqb-true c.body.count c.body.fuel test }))))
   by_tests false pending test interrupt = with_fuel pending interrupt
     where
       left : c.body.count < c.body.fuel
@@ -67,7 +68,7 @@ module _ (tasks : List Task) (number : ℕ) (code : List ℕ) (h : HartState) (c
 
       with_fuel : (pending : Bool) → interrupt_of h.csrs (is_fuel_used h.held) ≡ user_interrupt false pending → UserStepLeads tasks code number h c
       with_fuel true interrupt =
-          by_interrupt_leads timer_cause interrupt (inr (inl (record { trap = at-interrupt tasks number h c is timer_cause; goes_on = runs })))
+          by_interrupt_leads timer_cause interrupt (inr (inl (record { trap = at-interrupt tasks number h c is timer_cause interrupt; goes_on = runs })))
       with_fuel false interrupt = by_instr_leads interrupt runs left
 
   -- Every step of a hart in user mode.

@@ -5,6 +5,7 @@ use Rattle.isa_model.specs.declared.task.Task.{Task}
 use Rattle.isa_model.specs.declared.latch.Latch.TheVariants as latches
 use Rattle.hart_model.specs.declared.calls.Did.TheVariants.{Trapped}
 use Rattle.hart_model.specs.declared.place.Place.{Place}
+use Rattle.hart_model.specs.declared.probe.Probe.{Probe}
 use Rattle.hart_model.specs.declared.place.Place.TheVariants as places
 use Rattle.hart_model.specs.declared.tag.Cell.{Cell}
 use Rattle.hart_model.specs.declared.tag.Mode.{Mode}
@@ -17,7 +18,8 @@ use Rattle.hart_model.specs.StepResult.{Steps}
 use Rattle.hart_model.specs.HartStep.{hart_step, step_by_mode}
 use Rattle.hart_model.specs.UserStep.{user_step, by_interrupt, is_fuel_used}
 use Rattle.core_model.specs.Invariant.{AreCsrsSound, IsTruthful, IsOwn, mstatus_in}
-use Rattle.core_laws.specs.Starts.{IsUserState, IsAtTrap}
+use Rattle.core_model.specs.Routines.{IsUserState}
+use Rattle.core_laws.specs.Starts.{IsAtTrap}
 use Rattle.core_laws.proofs.UserTruth.{reg-cell}
 
 is_no_status : (value : ℕ) → value ≢ 0x80 → value ≡ 0x80 → ⊥
@@ -47,12 +49,21 @@ csrs_sound number csrs cause pc user sound = record {
 abbrev pub counted : ContextState → ℕ → ContextState
 counted c count = record c { body = record c.body { count = count } }
 
+-- a trap has one cause
+pub same-cause : (tasks : List Task) (number n : ℕ) (g : HartState) (c : ContextState) (cause other : ℕ) → Trapped cause ≡ Trapped other
+    → IsAtTrap tasks number n cause g c → IsAtTrap tasks number n other g c
+same-cause tasks number n g c cause other e trap =
+    let same : cause ≡ other = cc e in
+    subst (λ (x : ℕ). IsAtTrap tasks number n x g c) same trap
+
 module _ (tasks : List Task) (number : ℕ) (h : HartState) (c : ContextState) (is : IsUserState tasks number h c) where
   -- A hart that trapped, whose cells say the truth, stands at the trap.
-  pub at-trap : (g : HartState) (count cause : ℕ) → g.pc ≡ h.csrs.mtvec → g.csrs ≡ csrs_after_trap h.csrs cause h.pc → g.regs ≡ h.regs
+  pub at-trap : (g : HartState) (count cause : ℕ) (probes : List Probe) → user_step h ≡ Steps g probes (Trapped cause)
+      → g.pc ≡ h.csrs.mtvec → g.csrs ≡ csrs_after_trap h.csrs cause h.pc → g.regs ≡ h.regs
       → g.zero_word ≡ h.zero_word → g.held ≡ Some (counted c count) → ((p : Place) → IsTruthful tasks (hart_cell g p))
       → IsAtTrap tasks number c.body.count cause g (counted c count)
-  at-trap g count cause pc csrs regs zero_word held truthful = record {
+  at-trap g count cause probes step pc csrs regs zero_word held truthful = record {
+    trapped = record { user = h; context = c; state = is; count = refl; probes = probes; cause = cause; step = step; held = held };
     mode = ap (λ (x : CsrFile). x.mode) csrs;
     csrs = subst (λ (x : CsrFile). AreCsrsSound number x) (sym csrs) (csrs_sound number h.csrs cause h.pc is.user.mode is.sound.csrs);
     pc = pc ∙ is.sound.csrs.mtvec;
@@ -106,5 +117,6 @@ module _ (tasks : List Task) (number : ℕ) (h : HartState) (c : ContextState) (
   interrupted_truthful cause (places.SlotWord i) = is.sound.truthful (places.SlotWord i)
   interrupted_truthful cause (places.DataWord i) = is.sound.truthful (places.DataWord i)
 
-  pub at-interrupt : (cause : ℕ) → IsAtTrap tasks number c.body.count cause (interrupted cause) c
-  at-interrupt cause = at-trap (interrupted cause) c.body.count cause refl refl refl refl is.user.held (interrupted_truthful cause)
+  pub at-interrupt : (cause : ℕ) → interrupt_of h.csrs (is_fuel_used h.held) ≡ Some cause → IsAtTrap tasks number c.body.count cause (interrupted cause) c
+  at-interrupt cause some =
+      at-trap (interrupted cause) c.body.count cause [] (interrupt-step cause some) refl refl refl refl is.user.held (interrupted_truthful cause)

@@ -17,7 +17,7 @@ use Rattle.hart_model.specs.UserLaws.{IsTaskLatch, IsRunLatch}
 use Rattle.hart_model.proofs.UserWrites.{data_index}
 use Rattle.hart_model.proofs.UserWritesOwn.{run_place}
 use Rattle.core_model.specs.Invariant.{IsTruthful}
-use Rattle.core_laws.specs.Starts.{IsUserState}
+use Rattle.core_model.specs.Routines.{IsUserState}
 
 -- the latch of a data word, and its place
 pub word-latch : (T : Task) (i : ℕ) → IsValidTask T → i < T.data_len → IsTaskLatch T (latches.Mem (T.data_at + 4 * i))

@@ -8,7 +8,7 @@ use Rattle.hart_model.specs.Cells.{blank}
 use Rattle.hart_model.specs.Context.{ContextState}
 use Rattle.hart_model.specs.HartState.{HartState, hart_cell, tick_of, held_words, held_data}
 use Rattle.core_model.specs.Invariant.{IsHartSound, IsTruthful}
-use Rattle.abstract_run.specs.Ways.{ticked_if}
+use Rattle.core_model.specs.Routines.{ticked_if}
 use Rattle.abstract_run.proofs.Ways.{csrs-tick}
 use Rattle.abstract_run.proofs.OneWrite.{public-truthful}
 use Rattle.abstract_run.proofs.PathSays.{not-user, not-none}

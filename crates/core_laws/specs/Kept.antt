@@ -11,7 +11,8 @@ use Rattle.core_model.specs.Core.{CoreState}
 use Rattle.core_model.specs.Explained.{IsLogExplained}
 use Rattle.core_model.specs.Invariant.{IsWaitingCase, IsEndedCase, home_count, slot_count, entries_held}
 use Rattle.core_laws.specs.KernelStates.{KernelParts}
-use Rattle.core_laws.specs.Starts.{IsReadyContext, IsOnItsWay}
+use Rattle.core_model.specs.Routines.{IsReadyContext}
+use Rattle.core_laws.specs.Starts.{IsOnItsWay}
 
 -- A waiting task, which is a valid one.
 abbrev pub IsWaitingTask : List Task → BodyState → Type 0

@@ -1,19 +1,18 @@
 -- The parts of a kernel's code, and what is known of a hart at their ends (this project's own).
-use Rattle.std.specs.Prelude.{◌≡◌, ℕ, zero, suc, ◌+◌, ◌*◌, ◌≤◌, ℤ, pos, ◌-ℤ◌, List, [], ◌∷◌, ◌++◌, get_or, replicate, if◌then◌else◌}
+use Rattle.std.specs.Prelude.{◌≡◌, ℕ, zero, suc, ◌+◌, ◌*◌, ◌≤◌, ℤ, pos, ◌-ℤ◌, List, [], ◌∷◌, ◌++◌, length, get_or, replicate, if◌then◌else◌}
 use Rattle.isa_model.specs.declared.instr.Instr.{Instr}
 use Rattle.isa_model.specs.declared.instr.Instr.TheVariants.{Jal, Branch, Fence, Mret}
 use Rattle.isa_model.specs.declared.task.Task.{Task}
 use Rattle.hart_model.specs.Pmp.{bounds_of}
 use Rattle.hart_model.specs.Csrs.{CsrFile}
 use Rattle.hart_model.specs.Context.{ContextState}
-use Rattle.hart_model.specs.HartState.{HartState}
 use Rattle.hart_model.specs.MachineStep.{kernel_address}
 use Rattle.core_model.specs.KernelText.{Label, Idle, Line, At, Does, Branches, Jumps, Word, save_lines, middle_lines, restore_lines}
-use Rattle.core_model.specs.KernelWords.{KernelCodeState, same_label, distance, kernel_code}
-use Rattle.abstract_run.specs.AbstractCell.{AbstractCell, Zero, SlotAddress, PublicAny, PublicNumber, TaskReg, OldSlotWord, AnyTagged, AbstractState}
-use Rattle.abstract_run.specs.Concretization.{Setting, IsSound}
-use Rattle.abstract_run.specs.SymbolicPath.{PathState, StandAt, HasInstrAt, IsAsPathSays}
-use Rattle.abstract_run.specs.Ways.{Leads}
+use Rattle.core_model.specs.KernelWords.{KernelCodeState, same_label, distance, kernel_code, linked_code, save_words, restore_words}
+use Rattle.core_model.specs.Routines.{SavesValues, SavesExplained, SavesAlike, RestoresValues, RestoresExplained, RestoresAlike, part_limit}
+use Rattle.abstract_run.specs.AbstractCell.{AbstractCell, Zero, SlotAddress, PublicAny, PublicNumber, TaskReg, OldSlotWord, GivenCell, AnyTagged, AbstractState}
+use Rattle.abstract_run.specs.Concretization.{Setting}
+use Rattle.abstract_run.specs.SymbolicPath.{PathState, StandAt, HasInstrAt}
 
 -- the distance to a label of a text, or to the idle loop, which stands so many words after the text's start
 abbrev pub distance_to : List Line → ℕ → ℕ → Label → ℤ
@@ -60,9 +59,20 @@ pub record KernelParts : Type 0 where
   pub save : ℕ
   pub restore : ℕ
 
+-- the words of the kernel's own save part and restore part
+abbrev pub own_save : List ℕ
+own_save = save_words
+
+abbrev pub own_restore : List ℕ
+own_restore = restore_words
+
 -- the kernel of this project
 abbrev pub emitted_parts : KernelParts
 emitted_parts = record { code = kernel_code; save = 101; restore = 62 }
+
+-- a kernel with other words for its parts
+abbrev pub linked_parts : List ℕ → List ℕ → KernelParts
+linked_parts save restore = record { code = linked_code save restore; save = length save; restore = length restore }
 
 -- the addresses of the middle, the restore part, the return to the task and the idle loop
 abbrev pub middle_at : KernelParts → ℕ
@@ -91,7 +101,8 @@ bound_cells T =
 abbrev pub kernel_regs : List AbstractCell
 kernel_regs = replicate 5 PublicAny ++ SlotAddress ∷ replicate 26 PublicAny
 
--- Of a trapped task: the registers are its own, the other latches have anything of it or of before, and so have the slot's words.
+-- Of a trapped task: the registers are its own, the other latches have anything of it or of before, and so have the slot's words. The
+-- word of the pc is a given cell, which stays.
 abbrev pub trapped_cells : Setting → AbstractState
 trapped_cells s = record {
   regs = AnyTagged ∷ numbered TaskReg 1 31;
@@ -102,7 +113,7 @@ trapped_cells s = record {
   store = AnyTagged;
   scr = SlotAddress;
   zero = Zero;
-  slot = PublicAny ∷ numbered OldSlotWord 1 31 ++ bound_cells s.task;
+  slot = GivenCell ∷ numbered OldSlotWord 1 31 ++ bound_cells s.task;
   data_words = [];
 }
 
@@ -122,35 +133,30 @@ saved_cells s pc = record {
 }
 
 -- Of a restored task: its registers are in the latches of their names, and stand in the slot as before.
-abbrev pub restored_cells : Setting → AbstractState
-restored_cells s = record (saved_cells s PublicAny) { regs = PublicAny ∷ numbered TaskReg 1 31 }
+abbrev pub restored_cells : Setting → AbstractCell → AbstractState
+restored_cells s pc = record (saved_cells s pc) { regs = PublicAny ∷ numbered TaskReg 1 31 }
 
 abbrev pub at_start : AbstractState → CsrFile → ContextState → PathState
 at_start cells csrs held = record { cells = cells; index = 0; csrs = csrs; held = held }
 
 -- Where the words of a code stand that its parts don't choose.
 pub record IsLinked (k : KernelParts) : Type 0 where
-  pub save_limit : k.save ≤ 300
-  pub restore_limit : k.restore ≤ 300
+  pub save_limit : k.save ≤ part_limit
+  pub restore_limit : k.restore ≤ part_limit
   pub take : k.code.take ≡ middle_at k + 4 * take_index
   pub middle : StandAt k.code.words (middle_at k) (middle_instrs (middle_len + k.restore + 1))
   pub mret : HasInstrAt k.code.words (mret_at k) Mret
   pub idle : HasInstrAt k.code.words (idle_at k) (Jal 0 (pos 0))
 
--- The save part leads from a trapped task to a saved one, by one step for each of its words.
-abbrev pub SavePartSaves : KernelParts → Type 0
-SavePartSaves k = (s : Setting) (number : ℕ) (csrs : CsrFile) (held : ContextState) (h : HartState) → IsSound s →
-    IsAsPathSays s number kernel_address (at_start (trapped_cells s) csrs held) h →
-    Leads s.tasks k.code.words number k.save (IsAsPathSays s number (middle_at k) (at_start (saved_cells s PublicAny) csrs held)) h
-
--- The restore part leads from a saved task to a restored one, by one step for each of its words.
-abbrev pub RestorePartRestores : KernelParts → Type 0
-RestorePartRestores k = (s : Setting) (number : ℕ) (csrs : CsrFile) (held : ContextState) (h : HartState) → IsSound s →
-    IsAsPathSays s number (restore_at k) (at_start (saved_cells s PublicAny) csrs held) h →
-    Leads s.tasks k.code.words number k.restore (IsAsPathSays s number (mret_at k) (at_start (restored_cells s) csrs held)) h
-
--- A kernel of which all that follows is proved.
+-- A kernel of which all that follows is proved: its first words save, and those from its restore part on restore.
 pub record IsKernel (k : KernelParts) : Type 0 where
   pub linked : IsLinked k
-  pub saves : SavePartSaves k
-  pub restores : RestorePartRestores k
+  pub saves_values : SavesValues k.code.words k.save
+  pub saves_explained : SavesExplained k.code.words k.save
+  pub restores_values : RestoresValues k.code.words (restore_at k) k.restore
+  pub restores_explained : RestoresExplained k.code.words (restore_at k) k.restore
+
+-- And what its parts have to do on two harts that are alike.
+pub record IsAlikeKernel (k : KernelParts) : Type 0 where
+  pub saves : SavesAlike k.code.words k.save
+  pub restores : RestoresAlike k.code.words (restore_at k) k.restore

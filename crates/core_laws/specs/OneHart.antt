@@ -13,7 +13,8 @@ use Rattle.core_model.specs.Board.{OutEntry}
 use Rattle.core_model.specs.Explained.{IsExplained}
 use Rattle.core_model.specs.Invariant.{IsHartSound, entries_held}
 use Rattle.core_laws.specs.KernelStates.{KernelParts}
-use Rattle.core_laws.specs.Starts.{IsReadyContext, IsDoneContext, IsOnItsWay}
+use Rattle.core_model.specs.Routines.{IsReadyContext}
+use Rattle.core_laws.specs.Starts.{IsDoneContext, IsOnItsWay}
 
 -- a hart that is on its way, holds just what these entries say, and has made explained entries of the log
 pub record IsKept (tasks : List Task) (k : KernelParts) (number : ℕ) (out : List OutEntry) (a : HartAndProbes) : Type 0 where

@@ -9,7 +9,7 @@ use Rattle.isa_model.specs.TaskPlaces.{IsValidTask}
 use Rattle.isa_model.specs.Alone.{alone_at, after_instr, after_call}
 use Rattle.isa_model.specs.AloneValue.{alone_value}
 use Rattle.hart_model.specs.declared.place.Place.{Place}
-use Rattle.hart_model.specs.declared.place.Place.TheVariants.{Reg, SlotWord, DataWord}
+use Rattle.hart_model.specs.declared.place.Place.TheVariants.{Reg}
 use Rattle.hart_model.specs.declared.tag.Mode.TheVariants.{Machine}
 use Rattle.hart_model.specs.declared.tag.Tag.TheVariants.{Public}
 use Rattle.hart_model.specs.Cells.{blank}
@@ -18,21 +18,15 @@ use Rattle.hart_model.specs.Traps.{fuel_cause, timer_cause}
 use Rattle.hart_model.specs.Context.{ContextState, IsScrubbed, done_of, slot_len, pc_word, slot_word, data_word, slot_address, task_of}
 use Rattle.hart_model.specs.HartState.{HartState, hart_cell}
 use Rattle.hart_model.specs.MachineStep.{kernel_address}
-use Rattle.core_model.specs.Invariant.{AreCsrsSound, IsHartSound, IsUserCase, IsReadyCase, IsEndedCase, IsTruthful, IsOwn, IsRunning, HasBounds}
+use Rattle.core_model.specs.Invariant.{AreCsrsSound, IsEndedCase, IsTruthful, IsOwn, IsRunning, HasBounds}
+use Rattle.core_model.specs.Routines.{IsUserState, IsReadyContext, IsLatchPlace, IsTrapped}
 use Rattle.abstract_run.specs.Ways.{Leads}
 use Rattle.core_laws.specs.KernelStates.{KernelParts, middle_at, idle_at, give_ready_index, give_done_index, take_index}
-
--- A hart in user mode with a context, whose task has not executed more instructions than its fuel.
-pub record IsUserState (tasks : List Task) (number : ℕ) (h : HartState) (c : ContextState) : Type 0 where
-  pub sound : IsHartSound tasks number h
-  pub user : IsUserCase tasks h c
-  pub slot : c.slot < 8
-  pub valid : IsValidTask (task_of c.body)
-  pub within : c.body.count ≤ c.body.fuel
 
 -- A hart that has just trapped from user mode by a cause, whose task had executed n instructions before the step that trapped: its
 -- registers and its data words are as then, and its other latches say the truth.
 pub record IsAtTrap (tasks : List Task) (number n cause : ℕ) (h : HartState) (c : ContextState) : Type 0 where
+  pub trapped : IsTrapped tasks number n h c
   pub mode : h.csrs.mode ≡ Machine
   pub csrs : AreCsrsSound number h.csrs
   pub pc : h.pc ≡ kernel_address
@@ -88,19 +82,6 @@ pub record IsCallTrap (tasks : List Task) (number n : ℕ) (h : HartState) (c : 
   pub serves : after_instr (task_of c.body) (alone_at (task_of c.body) n)
       ≡ after_call (task_of c.body) (alone_value (task_of c.body) n (latches.Reg 17)) (alone_value (task_of c.body) n (latches.Reg 10))
       (alone_at (task_of c.body) n)
-
--- the latches of a hart, and not the words of what it holds
-abbrev pub IsLatchPlace : Place → Type 0
-IsLatchPlace (SlotWord i) = ⊥
-IsLatchPlace (DataWord i) = ⊥
-IsLatchPlace place = Unit {0}
-
--- A ready context as the queue has it, and as it may be given.
-pub record IsReadyContext (tasks : List Task) (c : ContextState) : Type 0 where
-  pub ready : IsReadyCase tasks c
-  pub slot : c.slot < 8
-  pub valid : IsValidTask (task_of c.body)
-  pub within : c.body.count ≤ c.body.fuel
 
 -- An ended context as it may be given.
 pub record IsDoneContext (tasks : List Task) (c : ContextState) : Type 0 where
