@@ -11,7 +11,7 @@ use Rattle.hart_model.specs.Context.{BodyState, ContextState, task_of, pc_word, 
 use Rattle.core_model.specs.Board.{BoardState, out_entry, out_without, take_from, give_ready_of, give_done_of, with_action, with_next_admitted, contexts_from, boot_board}
 use Rattle.core_model.specs.Core.{bodies_from}
 use Rattle.core_model.specs.LowEquivalence.{AreTasksAlike, ArePairwise}
-use Rattle.alike_laws.specs.AlikeHarts.{AreCellsAlike, AreBodiesAlike, AreContextsAlike}
+use Rattle.core_model.specs.AlikeHarts.{AreCellsAlike, AreBodiesAlike, AreContextsAlike}
 use Rattle.alike_laws.specs.AlikeCores.{AreDoneAlike, AreBoardsAlike}
 use Rattle.alike_laws.proofs.Pairs.{pairwise-length, pairwise-push, pairwise-set, pairwise-take, pairwise-drop, pairwise-same}
 

@@ -21,13 +21,13 @@ use Rattle.core_model.specs.Core.{CoreState, with_hart, after_take, after_give_d
 use Rattle.core_model.specs.Loaded.{IsLoaded}
 use Rattle.core_model.specs.LowEquivalence.{ArePairwise, AreAlike, AgreesPublicly, AgreePublicly}
 use Rattle.core_laws.specs.KernelStates.{KernelParts}
-use Rattle.core_laws.specs.Starts.{IsReadyContext}
+use Rattle.core_model.specs.Routines.{IsReadyContext}
 use Rattle.core_laws.specs.OneHart.{EachHart}
 use Rattle.core_laws.specs.Kept.{IsCoreKept}
-use Rattle.core_laws.proofs.Lists.{get-set}
+use Rattle.core_model.proofs.Lists.{get-set}
 use Rattle.core_laws.proofs.Composition.{event-kept}
 use Rattle.core_laws.proofs.Boot.{boot-kept, core-kept}
-use Rattle.alike_laws.specs.AlikeHarts.{AreContextsAlike, AreHeldAlike, AreHartsAlike}
+use Rattle.core_model.specs.AlikeHarts.{AreContextsAlike, AreHeldAlike, AreHartsAlike}
 use Rattle.alike_laws.specs.AlikeCores.{AreBoardsAlike, AreCoresAlike, AreLeftTogether, AreOnWayTogether, AreStepsTogether, BothHarts, TogetherAreAlike}
 use Rattle.alike_laws.proofs.Pairs.{pairwise-append, pairwise-from-places}
 use Rattle.alike_laws.proofs.AlikeBoards.{boot-boards, boards-empty, boards-taken, boards-ready, boards-done}

@@ -16,7 +16,7 @@ use Rattle.hart_model.specs.MachineStep.{machine_instr_step}
 use Rattle.hart_model.specs.StepResult.{Wants}
 use Rattle.hart_model.specs.HartStep.{hart_step, answer_take, answer_give, take_cell, loaded_writes}
 use Rattle.core_model.specs.LowEquivalence.{ArePairwise}
-use Rattle.abstract_run.specs.Ways.{ticked_if}
+use Rattle.core_model.specs.Routines.{ticked_if}
 use Rattle.abstract_run.proofs.Paths.{machine-step-at}
 use Rattle.core_laws.specs.KernelStates.{KernelParts, IsKernel, middle_at, idle_at, middle_len, give_ready_index, give_done_index, take_index}
 use Rattle.core_laws.specs.Starts.{IsAtStart, IsEmptyHanded, IsGivingReady, IsGivingDone}
@@ -25,7 +25,7 @@ use Rattle.core_laws.proofs.Waiting.{empty-ticked}
 use Rattle.core_laws.proofs.Gives.{wants-give-ready, wants-give-done}
 use Rattle.core_laws.proofs.Idle.{GoesEmpty, jumps-to-take, branches-to-idle, idles}
 use Rattle.core_laws.proofs.Takes.{wants-take, x5-ticked}
-use Rattle.alike_laws.specs.AlikeHarts.{AreHeldAlike, AreHartsAlike}
+use Rattle.core_model.specs.AlikeHarts.{AreHeldAlike, AreHartsAlike}
 use Rattle.alike_laws.specs.AlikeSteps.{AreWritesAlike, AreLeftAlike, DecidesAlike, GoOnAlike}
 use Rattle.alike_laws.specs.AlikeCores.{LedBoth}
 use Rattle.alike_laws.proofs.Pairs.{pairwise-same}

@@ -14,14 +14,14 @@ use Rattle.abstract_run.specs.AbstractCell.{AbstractState}
 use Rattle.abstract_run.specs.AbstractRun as run
 use Rattle.abstract_run.specs.Concretization.{Setting, IsSound}
 use Rattle.abstract_run.specs.SymbolicPath.{PathState, PathStep, Path, AreSo, path_step, path_from, path_of, StandAt, IsAsPathSays}
-use Rattle.abstract_run.specs.Ways.{ticked_if}
+use Rattle.core_model.specs.Routines.{ticked_if}
 use Rattle.abstract_run.specs.Laws.{StepsAreTaken}
 use Rattle.abstract_run.proofs.PathSays.{path-says-ticked}
 use Rattle.abstract_run.proofs.StepModes.{step-mode}
 use Rattle.abstract_run.proofs.AfterStep.{after-step}
 use Rattle.abstract_run.proofs.PathParts.{are-so-right, no-more, next_path, first-parts, asked-first}
 use Rattle.abstract_run.proofs.Paths.{machine-step-at}
-use Rattle.alike_laws.specs.AlikeHarts.{AreHartsAlike}
+use Rattle.core_model.specs.AlikeHarts.{AreHartsAlike}
 use Rattle.alike_laws.specs.AlikeSteps.{AreStepsAlike, DecidesAlike, GoOnAlike, LeadBoth}
 use Rattle.alike_laws.proofs.EndsStay.{end-stays}
 use Rattle.abstract_run.specs.Ways.{GoesOnTo}
@@ -49,7 +49,7 @@ one-goes steps-taken may_reach s ok number base code instrs stand p taken instr 
     }
 
 -- what stands at one place is one
-one-of : (o : Option Instr) (a b : Instr) → o ≡ Some a → o ≡ Some b → a ≡ b
+pub one-of : (o : Option Instr) (a b : Instr) → o ≡ Some a → o ≡ Some b → a ≡ b
 one-of o a b e f = cc (e, f)
 
 -- each instruction in machine mode that decides alike does alike on harts that are alike

@@ -1,27 +1,29 @@
 -- Two harts that are alike after a step in user mode, with tasks that are alike: they go on in user mode, or the same trap leads both on.
-use Rattle.std.proofs.Common.{◌≡◌, ℕ, ◌+◌, inl, inr, List, slice_get, Some, None, refl, sym, ap, ◌∙◌, arith}
+use Rattle.std.proofs.Common.{◌≡◌, ℕ, ◌+◌, inl, inr, List, None, refl, sym, ap, ◌∙◌, arith}
 use Rattle.isa_model.specs.declared.task.Task.{Task}
 use Rattle.isa_model.specs.declared.control.Control.{Control}
 use Rattle.isa_model.specs.declared.latch.Latch.TheVariants as latches
-use Rattle.isa_model.specs.Alone.{Executed, alone_at, after_instr, after_call, last_of}
+use Rattle.isa_model.specs.Alone.{Executed, alone_at, after_instr, after_call}
 use Rattle.isa_model.specs.AloneValue.{alone_value}
 use Rattle.hart_model.specs.declared.tag.Mode.TheVariants.{User, Machine}
 use Rattle.hart_model.specs.Csrs.{CsrFile}
 use Rattle.hart_model.specs.Context.{ContextState, task_of}
 use Rattle.hart_model.specs.HartState.{HartState}
 use Rattle.core_model.specs.LowEquivalence.{AreTasksAlike}
-use Rattle.core_laws.specs.KernelStates.{KernelParts, IsKernel}
+use Rattle.core_laws.specs.KernelStates.{KernelParts, IsKernel, IsAlikeKernel}
 use Rattle.core_laws.specs.Starts.{IsAtStart, IsAtTrap, IsCallTrap}
 use Rattle.core_laws.specs.UserLeads.{IsUserOutcome}
-use Rattle.alike_laws.specs.AlikeHarts.{AreHartsAlike}
+use Rattle.core_laws.proofs.ReadyTimer.{GivesSome}
+use Rattle.core_laws.proofs.DoneEnds.{GivesEnded}
+use Rattle.core_model.specs.AlikeHarts.{AreHartsAlike}
 use Rattle.alike_laws.specs.AlikeCores.{LedBoth}
 use Rattle.alike_laws.proofs.UserCsrs.{csrs-agree}
 use Rattle.alike_laws.proofs.UserAlike.{contexts_alike}
 use Rattle.alike_laws.proofs.ControlItems.{same-item}
 use Rattle.alike_laws.proofs.BothWays.{both-map}
-use Rattle.alike_laws.proofs.BothKernel.{IsKernelOfBoth}
-use Rattle.alike_laws.proofs.BothReady.{AreGivingReady, LeadBothToReady, timer-both, yield-both, out-both}
-use Rattle.alike_laws.proofs.BothDone.{AreGivingDone, LeadBothToDone, fuel-both, fault-both, exit-both, out-full-both, tape-end-both, bad-call-both}
+use Rattle.alike_laws.proofs.BothTraps.{StandAlike}
+use Rattle.alike_laws.proofs.BothReady.{LeadBothToReady, timer-both, yield-both, out-both, in-both}
+use Rattle.alike_laws.proofs.BothDone.{LeadBothToDone, fuel-both, fault-both, exit-both, out-full-both, tape-end-both, bad-call-both}
 use Rattle.alike_laws.proofs.BothCalls.{BothCalls, BothExit, BothOut, BothFill, BothIn, BothRunOut, BothYield, BothBad, call-case, both-cases}
 
 -- Two harts where they start, each with the tasks of its own bundle, that are alike.
@@ -30,20 +32,7 @@ pub record AreAtStarts (tasks others : List Task) (k : KernelParts) (number : �
   pub other : IsAtStart others k number g
   pub alike : AreHartsAlike h g
 
--- Two tasks that are alike, and the last states of whose runs alone have one pc.
-pub record HaveAlikeRuns (T U : Task) : Type 0 where
-  pub tasks : AreTasksAlike T U
-  pub last : (last_of T).pc ≡ (last_of U).pc
-
--- what is left to be shown of two tasks that take words of their tapes
-abbrev pub InputsLeadBoth : KernelParts → Type 0
-InputsLeadBoth k = (tasks others : List Task) (number n m : ℕ) (h g : HartState) (c d : ContextState) (word found : ℕ)
-    → IsCallTrap tasks number n h c → IsCallTrap others number m g d → AreHartsAlike h g
-    → alone_value (task_of c.body) n (latches.Reg 17) ≡ 2 → alone_value (task_of d.body) m (latches.Reg 17) ≡ 2
-    → slice_get c.body.tape (alone_at (task_of c.body) n).tape_at ≡ Some word → slice_get d.body.tape (alone_at (task_of d.body) m).tape_at ≡ Some found
-    → LeadBothToReady tasks others k number h g
-
-module _ (k : KernelParts) (kernel : IsKernel k) (of_both : IsKernelOfBoth k) (inputs : InputsLeadBoth k) (tasks others : List Task) (number : ℕ) where
+module _ (k : KernelParts) (kernel : IsKernel k) (of_both : IsAlikeKernel k) (tasks others : List Task) (number : ℕ) where
   abbrev Led : HartState → HartState → Type 0
   Led h g = LedBoth (AreAtStarts tasks others k) k number h g
 
@@ -51,20 +40,20 @@ module _ (k : KernelParts) (kernel : IsKernel k) (of_both : IsKernelOfBoth k) (i
   ready-led : (h g : HartState) → LeadBothToReady tasks others k number h g → Led h g
   ready-led h g way = (
     way.0,
-    both-map k.code.words way.0 (AreGivingReady tasks others k number) (AreAtStarts tasks others k number) h g
-        (λ x y there. record { start = inr (inl there.gives); other = inr (inl there.other); alike = there.alike }) way.1,
+    both-map k.code.words way.0 (StandAlike (GivesSome tasks k number) (GivesSome others k number)) (AreAtStarts tasks others k number) h g
+        (λ x y there. record { start = inr (inl there.here); other = inr (inl there.away); alike = there.alike }) way.1,
   )
 
   done-led : (h g : HartState) → LeadBothToDone tasks others k number h g → Led h g
   done-led h g way = (
     way.0,
-    both-map k.code.words way.0 (AreGivingDone tasks others k number) (AreAtStarts tasks others k number) h g
-        (λ x y there. record { start = inr (inr (inl there.gives)); other = inr (inr (inl there.other)); alike = there.alike }) way.1,
+    both-map k.code.words way.0 (StandAlike (GivesEnded tasks k number) (GivesEnded others k number)) (AreAtStarts tasks others k number) h g
+        (λ x y there. record { start = inr (inr (inl there.here)); other = inr (inr (inl there.away)); alike = there.alike }) way.1,
   )
 
   module _ (h g : HartState) (c d : ContextState) (alike : AreHartsAlike h g) where
     -- Both call.
-    module _ (n m : ℕ) (f : IsCallTrap tasks number n h c) (u : IsCallTrap others number m g d) (runs : HaveAlikeRuns (task_of c.body) (task_of d.body)) where
+    module _ (n m : ℕ) (f : IsCallTrap tasks number n h c) (u : IsCallTrap others number m g d) (runs : AreTasksAlike (task_of c.body) (task_of d.body)) where
       abbrev T : Task
       T = task_of c.body
 
@@ -81,7 +70,7 @@ module _ (k : KernelParts) (kernel : IsKernel k) (of_both : IsKernelOfBoth k) (i
       same-deed : (after_instr T (alone_at T n)).deed ≡ (after_instr U (alone_at U m)).deed
       same-deed =
           let went : (alone_at U n).end ≡ None = ap (λ i. (alone_at U i).end) same-count ∙ u.went_on in
-          ap (λ (x : Control). x.deed) (same-item T U runs.tasks.fuel runs.tasks.control n f.fuel_left f.went_on went)
+          ap (λ (x : Control). x.deed) (same-item T U runs.fuel runs.control n f.fuel_left f.went_on went)
           ∙ ap (λ i. (after_instr U (alone_at U i)).deed) same-count
 
       by-calls : BothCalls T U (alone_value T n (latches.Reg 17)) (alone_value U m (latches.Reg 17)) (alone_at T n) (alone_at U m) → Led h g
@@ -89,7 +78,7 @@ module _ (k : KernelParts) (kernel : IsKernel k) (of_both : IsKernelOfBoth k) (i
       by-calls (BothOut is other room free) = ready-led h g (out-both k kernel of_both tasks others number h g c d alike f u is other room free)
       by-calls (BothFill is other room free) = done-led h g (out-full-both k kernel of_both alike f u is other room free)
       by-calls (BothIn is other word given found given_too) =
-          ready-led h g (inputs tasks others number n m h g c d word found f u alike is other given given_too)
+          ready-led h g (in-both k kernel of_both tasks others number h g c d alike f u word found is other given given_too)
       by-calls (BothRunOut is other none none_too) = done-led h g (tape-end-both k kernel of_both alike f u is other none none_too)
       by-calls (BothYield is other) = ready-led h g (yield-both k kernel of_both tasks others number h g c d alike f u is other)
       by-calls (BothBad same not0 not1 not2 not3) = done-led h g (bad-call-both k kernel of_both alike f u same not0 not1 not2 not3)
@@ -124,7 +113,7 @@ module _ (k : KernelParts) (kernel : IsKernel k) (of_both : IsKernelOfBoth k) (i
         sym trap.mcause ∙ csrs-agree (λ (x : CsrFile). x.mcause) h.csrs g.csrs alike.csrs (λ x m. refl) ∙ second.mcause
 
     -- After every outcome of both steps.
-    pub outcome-led : HaveAlikeRuns (task_of c.body) (task_of d.body) → IsUserOutcome tasks number h c → IsUserOutcome others number g d → Led h g
+    pub outcome-led : AreTasksAlike (task_of c.body) (task_of d.body) → IsUserOutcome tasks number h c → IsUserOutcome others number g d → Led h g
     outcome-led runs (inl user) (inl used) = (0, record { start = inl (c, user); other = inl (d, used); alike = alike })
     outcome-led runs (inl user) (inr (inl timer)) = absurd (one-mode user.user.mode timer.trap.mode)
     outcome-led runs (inl user) (inr (inr (inl fuel))) = absurd (one-mode user.user.mode fuel.trap.mode)

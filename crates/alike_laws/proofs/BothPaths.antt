@@ -23,8 +23,8 @@ use Rattle.hart_model.specs.StepResult.{StepResult, Steps}
 use Rattle.abstract_run.specs.AbstractEffect.{reg_cell}
 use Rattle.abstract_run.specs.Concretization.{Setting, IsSound, number_of}
 use Rattle.abstract_run.specs.SymbolicPath.{PathState, PathStep, AreSo, branch_index, port_from, path_step, IsAsPathSays}
-use Rattle.abstract_run.specs.Ways.{ticked_if}
-use Rattle.alike_laws.specs.AlikeHarts.{AreCellsAlike, AreHartsAlike}
+use Rattle.core_model.specs.Routines.{ticked_if}
+use Rattle.core_model.specs.AlikeHarts.{AreCellsAlike, AreHartsAlike}
 use Rattle.alike_laws.specs.AlikeSteps.{AreStepsAlike, SameNumber, DecidesAlike, GoOnAlike}
 use Rattle.alike_laws.proofs.Pairs.{pairwise-get}
 use Rattle.alike_laws.proofs.AlikeBoards.{cell-alike}

@@ -1,5 +1,5 @@
 -- All that two harts have to do that start alike, and what follows for the logs of alike bundles.
-use Rattle.std.proofs.Common.{◌≡◌, ℕ, ◌+◌, ◌*◌, inl, inr, List, [], ◌∷◌, true, Option, Some, None, refl, sym, subst}
+use Rattle.std.proofs.Common.{◌≡◌, ℕ, ◌+◌, ◌*◌, inl, inr, List, true, Option, Some, None, refl, sym, subst}
 use Rattle.isa_model.specs.declared.task.Task.{Task}
 use Rattle.hart_model.specs.declared.calls.QueueCall.TheVariants.{Take, GiveReady, GiveDone}
 use Rattle.hart_model.specs.Csrs.{public}
@@ -8,28 +8,23 @@ use Rattle.hart_model.specs.HartState.{HartState, boot_hart}
 use Rattle.hart_model.specs.Writes.{CellWrite}
 use Rattle.hart_model.specs.StepResult.{Wants}
 use Rattle.hart_model.specs.HartStep.{hart_step, answer_take, answer_give}
-use Rattle.core_model.specs.declared.event.Event.{Event}
-use Rattle.core_model.specs.declared.loaded.Loaded.{Loaded}
-use Rattle.core_model.specs.Core.{log_of}
-use Rattle.core_model.specs.Loaded.{IsLoaded}
-use Rattle.core_model.specs.LowEquivalence.{ArePairwise, AreTasksAlike, AreAlike, AgreePublicly}
-use Rattle.core_laws.specs.KernelStates.{KernelParts, IsKernel, emitted_parts, middle_at, give_ready_index, give_done_index, take_index}
+use Rattle.core_model.specs.LowEquivalence.{ArePairwise, AreTasksAlike}
+use Rattle.core_laws.specs.KernelStates.{KernelParts, IsKernel, IsAlikeKernel, middle_at, give_ready_index, give_done_index, take_index}
 use Rattle.core_laws.specs.Starts.{IsEmptyHanded, IsGivingReady, IsGivingDone}
 use Rattle.core_laws.specs.OneHart.{IsGot}
 use Rattle.core_laws.proofs.AtStart.{start-tick, boot-empty}
 use Rattle.core_laws.proofs.Gives.{give_writes, wants-give-ready, wants-give-done, given-ready, given-done}
 use Rattle.core_laws.proofs.Takes.{take_begun, wants-take, after-take, taken-x5}
-use Rattle.core_laws.proofs.Proved.{kernel-harts, emitted-is-kernel}
-use Rattle.alike_laws.specs.AlikeHarts.{AreCellsAlike, AreHeldAlike, AreHartsAlike}
+use Rattle.core_laws.proofs.Proved.{kernel-harts}
+use Rattle.core_model.specs.AlikeHarts.{AreCellsAlike, AreHeldAlike, AreHartsAlike}
 use Rattle.alike_laws.specs.AlikeCores.{AreLeftTogether, LedBoth, StartBoth}
-use Rattle.alike_laws.specs.Laws.{HaveOneLastPc, AlikeLogsAgree}
+use Rattle.alike_laws.specs.Laws.{AlikeLogsAgree}
 use Rattle.alike_laws.proofs.Pairs.{pairwise-same}
 use Rattle.alike_laws.proofs.CellsAlike.{cell-refl}
 use Rattle.alike_laws.proofs.AlikeCores.{logs-agree}
 use Rattle.alike_laws.proofs.BothPaths.{alike-ticked}
 use Rattle.alike_laws.proofs.BothStarts.{both-harts}
-use Rattle.alike_laws.proofs.BothKernel.{IsKernelOfBoth, emitted-of-both}
-use Rattle.alike_laws.proofs.BothOutcomes.{AreAtStarts, HaveAlikeRuns}
+use Rattle.alike_laws.proofs.BothOutcomes.{AreAtStarts}
 use Rattle.alike_laws.proofs.BothSteps.{start-together}
 use Rattle.alike_laws.proofs.BothAnswers.{given-alike, taken-alike, takes-at, gives-ready-at, gives-done-at, both-to-take, both-to-idle}
 use Rattle.alike_laws.proofs.BothTaken.{both-taken}
@@ -51,7 +46,7 @@ boot-alike number at =
       held = tt;
     }
 
-module _ (k : KernelParts) (kernel : IsKernel k) (of_both : IsKernelOfBoth k) (tasks others : List Task) (runs : ArePairwise HaveAlikeRuns tasks others) where
+module _ (k : KernelParts) (kernel : IsKernel k) (of_both : IsAlikeKernel k) (tasks others : List Task) (runs : ArePairwise AreTasksAlike tasks others) where
   abbrev There : ℕ → HartState → HartState → Type 0
   There = AreAtStarts tasks others k
 
@@ -187,25 +182,10 @@ module _ (k : KernelParts) (kernel : IsKernel k) (of_both : IsKernelOfBoth k) (t
     gives_done = gives-done;
   }
 
--- tasks that are alike, and whose runs alone end at one pc each
-both-runs : (tasks others : List Task) → ArePairwise AreTasksAlike tasks others → ArePairwise HaveOneLastPc tasks others → ArePairwise HaveAlikeRuns tasks others
-both-runs [] [] alike last = tt
-both-runs [] (u ∷ others) alike last = absurd alike
-both-runs (t ∷ tasks) [] alike last = absurd alike
-both-runs (t ∷ tasks) (u ∷ others) alike last = (record { tasks = alike.0; last = last.0 }, both-runs tasks others alike.1 last.1)
-
--- Under every kernel whose own parts lead both, the logs of alike bundles agree publicly.
-pub kernel-logs-agree : (k : KernelParts) → IsKernel k → IsKernelOfBoth k → (loaded other : Loaded) → IsLoaded loaded → IsLoaded other
-    → AreAlike loaded other → ArePairwise HaveOneLastPc loaded.tasks other.tasks
-    → (events : List Event) → AgreePublicly (log_of loaded k.code events) (log_of other k.code events)
-kernel-logs-agree k kernel of_both loaded other fits fits_too alike last events =
-    let runs = both-runs loaded.tasks other.tasks alike.tasks last in
+-- Under every kernel whose parts do alike, the logs of alike bundles agree publicly.
+pub alike-logs-agree : AlikeLogsAgree
+alike-logs-agree k kernel of_both loaded other fits fits_too alike events =
     let There : ℕ → HartState → HartState → Type 0 = AreAtStarts loaded.tasks other.tasks k in
-    let both = both-harts There loaded.tasks other.tasks k (start-both k kernel of_both loaded.tasks other.tasks runs) in
+    let both = both-harts There loaded.tasks other.tasks k (start-both k kernel of_both loaded.tasks other.tasks alike.tasks) in
     logs-agree (LedBoth There k) k loaded other (kernel-harts k kernel loaded fits) (kernel-harts k kernel other fits_too) both
     fits fits_too alike events
-
--- So they do under the kernel of this project.
-pub alike-logs-agree : AlikeLogsAgree
-alike-logs-agree loaded other fits fits_too alike last events =
-    kernel-logs-agree emitted_parts emitted-is-kernel emitted-of-both loaded other fits fits_too alike last events

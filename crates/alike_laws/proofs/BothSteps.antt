@@ -9,17 +9,18 @@ use Rattle.hart_model.specs.HartState.{HartState}
 use Rattle.hart_model.specs.StepResult.{StepResult, Steps}
 use Rattle.hart_model.specs.UserStep.{user_step}
 use Rattle.hart_model.specs.HartStep.{hart_step}
-use Rattle.core_model.specs.LowEquivalence.{ArePairwise}
+use Rattle.core_model.specs.LowEquivalence.{ArePairwise, AreTasksAlike}
 use Rattle.abstract_run.proofs.Paths.{machine-step-at}
-use Rattle.core_laws.specs.KernelStates.{KernelParts, IsKernel, idle_at}
-use Rattle.core_laws.specs.Starts.{IsUserState, IsAtStart}
+use Rattle.core_laws.specs.KernelStates.{KernelParts, IsKernel, idle_at, IsAlikeKernel}
+use Rattle.core_model.specs.Routines.{IsUserState}
+use Rattle.core_laws.specs.Starts.{IsAtStart}
 use Rattle.core_laws.specs.UserLeads.{IsUserOutcome}
 use Rattle.core_laws.proofs.UserSteps.{user-step-leads}
 use Rattle.core_laws.proofs.UserTraps.{user-mode-step}
 use Rattle.core_laws.proofs.Gives.{wants-give-ready, wants-give-done}
 use Rattle.core_laws.proofs.Takes.{wants-take}
 use Rattle.core_laws.proofs.Idle.{idles}
-use Rattle.alike_laws.specs.AlikeHarts.{AreHartsAlike}
+use Rattle.core_model.specs.AlikeHarts.{AreHartsAlike}
 use Rattle.alike_laws.specs.AlikeSteps.{AreStepsAlike, DecidesAlike}
 use Rattle.alike_laws.specs.AlikeCores.{AreStepsTogether, LedBoth}
 use Rattle.alike_laws.proofs.MachineAlike.{machine-alike}
@@ -27,9 +28,7 @@ use Rattle.alike_laws.proofs.UserCsrs.{csrs-agree}
 use Rattle.alike_laws.proofs.UserAlike.{contexts_alike, user-alike}
 use Rattle.alike_laws.proofs.BothWays.{go-together-steps}
 use Rattle.alike_laws.proofs.BothPaths.{went-alike}
-use Rattle.alike_laws.proofs.BothKernel.{IsKernelOfBoth}
-use Rattle.alike_laws.proofs.BothOutcomes.{AreAtStarts, HaveAlikeRuns, outcome-led}
-use Rattle.alike_laws.proofs.BothIn.{in-both}
+use Rattle.alike_laws.proofs.BothOutcomes.{AreAtStarts, outcome-led}
 
 -- steps that are together are so in other words too
 pub together-as : (There : HartState → HartState → Type 0) (x y s t : StepResult) → x ≡ s → y ≡ t → AreStepsTogether There s t → AreStepsTogether There x y
@@ -40,14 +39,14 @@ together-as There x y s t e f both =
 pub alike-as : (x y s t : StepResult) → x ≡ s → y ≡ t → AreStepsAlike x y → AreStepsAlike s t
 alike-as x y s t e f both = subst (λ z. AreStepsAlike z t) e (subst (λ z. AreStepsAlike x z) f both)
 
--- tasks of one number have alike runs
-runs-at : (tasks others : List Task) (i : ℕ) (T U : Task) → ArePairwise HaveAlikeRuns tasks others → slice_get tasks i ≡ Some T → slice_get others i ≡ Some U
-    → HaveAlikeRuns T U
+-- tasks of one number are alike
+runs-at : (tasks others : List Task) (i : ℕ) (T U : Task) → ArePairwise AreTasksAlike tasks others → slice_get tasks i ≡ Some T → slice_get others i ≡ Some U
+    → AreTasksAlike T U
 runs-at [] others i T U all e f = absurd (cc e)
 runs-at (t ∷ tasks) [] i T U all e f = absurd (cc f)
 runs-at (t ∷ tasks) (u ∷ others) zero T U all e f =
-    let P : Task → Type 0 = λ x. HaveAlikeRuns x U in
-    let Q : Task → Type 0 = λ x. HaveAlikeRuns t x in
+    let P : Task → Type 0 = λ x. AreTasksAlike x U in
+    let Q : Task → Type 0 = λ x. AreTasksAlike t x in
     let first : t ≡ T = cc e in
     let second : u ≡ U = cc f in
     subst P first (subst Q second all.0)
@@ -62,14 +61,14 @@ outcome-task tasks number h c (inr (inr (inl fuel))) = fuel.trap.is_task
 outcome-task tasks number h c (inr (inr (inr (inl fault)))) = fault.2.trap.is_task
 outcome-task tasks number h c (inr (inr (inr (inr call)))) = call.1.trap.is_task
 
-module _ (k : KernelParts) (kernel : IsKernel k) (of_both : IsKernelOfBoth k) (tasks others : List Task) (runs : ArePairwise HaveAlikeRuns tasks others)
+module _ (k : KernelParts) (kernel : IsKernel k) (of_both : IsAlikeKernel k) (tasks others : List Task) (runs : ArePairwise AreTasksAlike tasks others)
     (number : ℕ) where
   abbrev Led : HartState → HartState → Type 0
   Led h g = LedBoth (AreAtStarts tasks others k) k number h g
 
   context-runs : (o r : Option ContextState) (c d : ContextState) (h g : HartState) → AreHartsAlike h g → h.held ≡ Some c → g.held ≡ Some d
       → slice_get tasks c.body.task_no ≡ Some (task_of c.body) → slice_get others d.body.task_no ≡ Some (task_of d.body)
-      → HaveAlikeRuns (task_of c.body) (task_of d.body)
+      → AreTasksAlike (task_of c.body) (task_of d.body)
   context-runs o r c d h g alike held held_too e f =
       let same = (contexts_alike h.held g.held c d alike.held held held_too).body.task_no in
       runs-at tasks others c.body.task_no (task_of c.body) (task_of d.body) runs e (ap (slice_get others) same ∙ f)
@@ -82,7 +81,7 @@ module _ (k : KernelParts) (kernel : IsKernel k) (of_both : IsKernelOfBoth k) (t
         let one = user-step-leads tasks number k.code.words h c is in
         let two = user-step-leads others number k.code.words g d used in
         let now = context-runs h.held g.held c d h g alike is.user.held used.user.held is.user.body.is_task used.user.body.is_task in
-        let steps : AreStepsAlike (user_step h) (user_step g) = user-alike tasks others number h g c d is used now.tasks now.last alike in
+        let steps : AreStepsAlike (user_step h) (user_step g) = user-alike tasks others number h g c d is used now alike in
         let by = sym (user-mode-step tasks number h c is k.code.words) ∙ one.step in
         let by_too = sym (user-mode-step others number g d used k.code.words) ∙ two.step in
         let left : AreStepsAlike (Steps one.hart one.probes one.did) (Steps two.hart two.probes two.did) =
@@ -92,7 +91,7 @@ module _ (k : KernelParts) (kernel : IsKernel k) (of_both : IsKernelOfBoth k) (t
         together-as Led (hart_step k.code.words h) (hart_step k.code.words g) (Steps one.hart one.probes one.did) (Steps two.hart two.probes two.did)
         one.step two.step (
           left.0.probes,
-          outcome-led k kernel of_both (in-both k kernel of_both) tasks others number one.hart two.hart one.context two.context left.0.harts later
+          outcome-led k kernel of_both tasks others number one.hart two.hart one.context two.context left.0.harts later
               one.outcome two.outcome,
         )
 

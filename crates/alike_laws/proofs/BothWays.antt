@@ -3,7 +3,7 @@ use Rattle.std.proofs.Common.{◌≡◌, ℕ, zero, suc, ◌+◌, ◌≤◌, ◌
 use Rattle.hart_model.specs.HartState.{HartState, tick_of}
 use Rattle.hart_model.specs.StepResult.{StepResult, Steps, Wants, Wedged}
 use Rattle.hart_model.specs.HartStep.{hart_step}
-use Rattle.abstract_run.specs.Ways.{ticked_if}
+use Rattle.core_model.specs.Routines.{ticked_if}
 use Rattle.alike_laws.specs.AlikeSteps.{GoOnAlike, LeadBoth}
 use Rattle.alike_laws.specs.AlikeCores.{AreStepsTogether}
 

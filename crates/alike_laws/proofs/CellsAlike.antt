@@ -4,7 +4,7 @@ use Rattle.hart_model.specs.declared.tag.Cell.{Cell}
 use Rattle.hart_model.specs.Cells.{blank}
 use Rattle.hart_model.specs.Csrs.{public}
 use Rattle.core_model.specs.LowEquivalence.{ArePairwise}
-use Rattle.alike_laws.specs.AlikeHarts.{AreCellsAlike}
+use Rattle.core_model.specs.AlikeHarts.{AreCellsAlike}
 
 -- a cell is alike to itself, and public cells of one value are alike
 pub cell-refl : (c : Cell) → AreCellsAlike c c

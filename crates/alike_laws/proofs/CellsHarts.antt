@@ -8,7 +8,7 @@ use Rattle.hart_model.specs.Csrs.{CsrFile}
 use Rattle.hart_model.specs.Context.{ContextState}
 use Rattle.hart_model.specs.HartState.{HartState, bases_of, held_words, held_data, hart_cell, hart_with_cell, held_with_word, held_with_data}
 use Rattle.hart_model.specs.MachineStep.{machine_bases}
-use Rattle.alike_laws.specs.AlikeHarts.{AreCellsAlike, AreHeldAlike, AreCsrsAlike, AreHartsAlike}
+use Rattle.core_model.specs.AlikeHarts.{AreCellsAlike, AreHeldAlike, AreCsrsAlike, AreHartsAlike}
 use Rattle.alike_laws.proofs.CellsAlike.{cell-refl, get-alike, set-alike, length-alike}
 
 -- the words of what is held on both

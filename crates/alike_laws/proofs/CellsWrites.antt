@@ -15,7 +15,7 @@ use Rattle.hart_model.specs.Why.{why_of, step_or_unexplained}
 use Rattle.hart_model.specs.HartState.{HartState, bases_of, hart_cell, hart_with_cell}
 use Rattle.hart_model.specs.Writes.{CellWrite, probe_of_write, after_writes}
 use Rattle.core_model.specs.LowEquivalence.{ArePairwise, AreValuesAlike, AgreesPublicly}
-use Rattle.alike_laws.specs.AlikeHarts.{AreCellsAlike, AreHartsAlike}
+use Rattle.core_model.specs.AlikeHarts.{AreCellsAlike, AreHartsAlike}
 use Rattle.alike_laws.specs.AlikeSteps.{AreWritesAlike, AreLeftAlike}
 use Rattle.alike_laws.proofs.CellsHarts.{cell-alike, bases-alike, with-cell-alike}
 

@@ -9,7 +9,7 @@ use Rattle.isa_model.specs.declared.ends.EndKind.{EndKind}
 use Rattle.isa_model.specs.declared.task.Task.{Task}
 use Rattle.isa_model.specs.InstrTable.{instr_of}
 use Rattle.isa_model.specs.Effect.{Effect, Operands, Next, Goes, Raises, Calls, Returns, effect_of}
-use Rattle.isa_model.specs.Alone.{AloneState, Executed, alone_at, code_word_at, is_privileged, operands_of, deed_of, values_after, after_instr, after_fetch, after_decode, after_effect, after_writes, after_fault, last_of}
+use Rattle.isa_model.specs.Alone.{AloneState, Executed, alone_at, code_word_at, is_privileged, operands_of, deed_of, values_after, after_instr, after_fetch, after_decode, after_effect, after_writes, after_fault}
 use Rattle.hart_model.specs.UserStep.{exception}
 use Rattle.hart_model.specs.UserLaws.{alone_effect_of_instr, alone_effect_of_word, alone_effect}
 use Rattle.core_model.specs.LowEquivalence.{AreTasksAlike}
@@ -134,13 +134,13 @@ same_word T U at to place code pc =
     ∙ ap (λ (ws : List ℕ). code_word_at (record T { code_at = U.code_at; code = ws }) at) code
     ∙ ap (λ n. code_word_at U n) pc
 
--- Two tasks that are alike, and whose last states have one pc, do each instruction by effects that are alike.
-pub control-effects : (T U : Task) → AreTasksAlike T U → (last_of T).pc ≡ (last_of U).pc → (n : ℕ) → n < T.fuel
+-- Two tasks that are alike do each instruction by effects that are alike.
+pub control-effects : (T U : Task) → AreTasksAlike T U → (n : ℕ) → n < T.fuel
     → (alone_at T n).end ≡ None → (alone_at U n).end ≡ None → AreEffectsAlike (alone_effect T (alone_at T n)) (alone_effect U (alone_at U n))
-control-effects T U alike last n left runs other =
+control-effects T U alike n left runs other =
     let item = same-item T U alike.fuel alike.control n left runs other in
     let pc : (alone_at T n).pc ≡ (alone_at U n).pc = ap (λ (c : Control). c.pc) item in
     executed-alike T U (alone_at T n) (alone_at U n) runs other (same_word T U (alone_at T n).pc (alone_at U n).pc alike.code_at alike.code pc) (record {
       deed = ap (λ (c : Control). c.deed) item;
-      pc = λ on on'. same-next-pc T U alike.fuel alike.control last n left runs other on on';
+      pc = λ on on'. same-next-pc T U alike.fuel alike.control alike.last_pc n left runs other on on';
     })

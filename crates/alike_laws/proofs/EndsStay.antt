@@ -15,7 +15,7 @@ use Rattle.hart_model.specs.declared.port.Port.TheVariants.{Out, Tape, TapeLeft,
 use Rattle.hart_model.specs.Csrs.{CsrFile, with_public_csr, mepc, mcause, is_pmpaddr}
 use Rattle.hart_model.specs.declared.tag.Cell.{Cell}
 use Rattle.hart_model.specs.Context.{pc_word}
-use Rattle.abstract_run.specs.AbstractCell.{AbstractCell, Zero, SlotAddress, PublicAny, PublicNumber, TaskReg, OldSlotWord, TapeWord, AnyTagged, is_tagged}
+use Rattle.abstract_run.specs.AbstractCell.{AbstractCell, Zero, SlotAddress, PublicAny, PublicNumber, TaskReg, OldSlotWord, GivenCell, AnyTagged, is_tagged}
 use Rattle.abstract_run.specs.AbstractEffect.{AbstractWrite, reg_cell, abstract_effect}
 use Rattle.abstract_run.specs.Concretization.{Setting, number_of}
 use Rattle.abstract_run.specs.SymbolicPath.{PathState, PathStep, Path, path_step, path_from}
@@ -95,7 +95,7 @@ module _ (p : PathState) where
 
   load-end : (may_reach : ℕ → Bool) (s : Setting) (rd rs1 : ℕ) (imm : ℤ) (at : ℕ) (o : Option Port) → IsKept p (paths.load_step may_reach s p rd rs1 imm at o)
   load-end may_reach s rd rs1 imm at None = plain-end (abstract_effect may_reach p.cells (Load loads.W rd rs1 imm))
-  load-end may_reach s rd rs1 imm at (Some port) = load-port-end rd rs1 at s.tape_word (Some port)
+  load-end may_reach s rd rs1 imm at (Some port) = load-port-end rd rs1 at s.given_cell (Some port)
 
   store-end : (may_reach : ℕ → Bool) (s : Setting) (rs2 rs1 : ℕ) (imm : ℤ) (at : ℕ) (o : Option Port) →
       IsKept p (paths.store_step may_reach s p rs2 rs1 imm at o)
@@ -120,7 +120,7 @@ module _ (p : PathState) where
   write-end rs1 csr true PublicAny = tt
   write-end rs1 csr true (TaskReg number) = tt
   write-end rs1 csr true (OldSlotWord index) = tt
-  write-end rs1 csr true TapeWord = tt
+  write-end rs1 csr true GivenCell = tt
   write-end rs1 csr true AnyTagged = tt
   write-end rs1 csr false cell = tt
 

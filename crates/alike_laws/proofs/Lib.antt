@@ -14,7 +14,6 @@ pub mod UserAlike
 pub mod ControlItems
 pub mod ControlRows
 pub mod ControlEffects
-mod ControlLastPc
 -- What is related place by place.
 pub mod Pairs
 -- Boards and cores that are alike, after every event.
@@ -30,14 +29,15 @@ pub mod BothPaths
 pub mod BothLead
 -- Ways of two harts through the kernel's code.
 pub mod BothEnds
-pub mod BothKernel
+pub mod BothRuns
 pub mod BothTraps
 pub mod BothReady
 pub mod BothDone
 pub mod BothCalls
 pub mod BothOutcomes
-pub mod BothIn
 pub mod BothSteps
 pub mod BothAnswers
 pub mod BothTaken
 pub mod BothStand
+-- The kernel's own parts.
+pub mod EmittedAlike

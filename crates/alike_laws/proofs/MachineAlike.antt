@@ -8,7 +8,7 @@ use Rattle.hart_model.specs.declared.place.Place.TheVariants.{Reg}
 use Rattle.hart_model.specs.Taint.{is_public}
 use Rattle.hart_model.specs.HartState.{HartState, hart_cell}
 use Rattle.hart_model.specs.MachineStep.{finds_nothing, Refused, by_reach, by_instr, by_word, enters_nothing, kernel_word_at, machine_instr_step, machine_step}
-use Rattle.alike_laws.specs.AlikeHarts.{AreHartsAlike}
+use Rattle.core_model.specs.AlikeHarts.{AreHartsAlike}
 use Rattle.alike_laws.specs.AlikeSteps.{AreStepsAlike, DecidesAlike}
 use Rattle.alike_laws.proofs.CellsHarts.{cell-alike}
 use Rattle.alike_laws.proofs.MachineCsrs.{previous-alike}

@@ -11,7 +11,7 @@ use Rattle.hart_model.specs.Taint.{machine_tag}
 use Rattle.hart_model.specs.Csrs.{CsrFile, csr_cell, with_csr, with_csr_by_tag, with_public_csr, with_mstatus, with_mie, with_pmpcfg, with_pmpaddr, mstatus_value, mie_value, public, mstatus, mie, mtvec, mscratch, mepc, mcause, mtval, mip, pmpcfg0, is_pmpaddr, pmpaddr0, mhartid}
 use Rattle.hart_model.specs.Traps.{csrs_after_mret}
 use Rattle.hart_model.specs.MachineStep.{OperandCells, operand_tag, csrs_after_effect}
-use Rattle.alike_laws.specs.AlikeHarts.{AreCellsAlike, AreCsrsAlike}
+use Rattle.core_model.specs.AlikeHarts.{AreCellsAlike, AreCsrsAlike}
 use Rattle.alike_laws.proofs.CellsAlike.{public-cells}
 use Rattle.alike_laws.proofs.MachineRows.{AreOptionsAlike, AreOperandsAlike, AreCsrOptionsAlike, row-cell}
 

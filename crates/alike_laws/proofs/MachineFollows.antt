@@ -15,7 +15,7 @@ use Rattle.hart_model.specs.Ports.{SideEffect, Nothing, Outputs, AdvancesTape, E
 use Rattle.hart_model.specs.MachineStep.{OperandCells, operand_cells, machine_bases, machine_writes, machine_effect, held_after_side, after_side, by_csrs, by_next, by_reach, Reach, Finds, NeedsQueue, Refused}
 use Rattle.isa_model.specs.Alone.{rs1_of, rs2_of}
 use Rattle.core_model.specs.LowEquivalence.{ArePairwise}
-use Rattle.alike_laws.specs.AlikeHarts.{AreCellsAlike, AreContextsAlike, AreHeldAlike, AreCsrsAlike, AreHartsAlike}
+use Rattle.core_model.specs.AlikeHarts.{AreCellsAlike, AreContextsAlike, AreHeldAlike, AreCsrsAlike, AreHartsAlike}
 use Rattle.alike_laws.specs.AlikeSteps.{AreWritesAlike, AreStepsAlike}
 use Rattle.alike_laws.proofs.CellsAlike.{cell-refl}
 use Rattle.alike_laws.proofs.CellsHarts.{cell-alike, machine-bases-alike}

@@ -15,7 +15,7 @@ use Rattle.hart_model.specs.Taint.{is_public}
 use Rattle.hart_model.specs.Traps.{fuel_cause}
 use Rattle.hart_model.specs.Context.{ContextState, slot_word, pc_word}
 use Rattle.hart_model.specs.Ports.{SideEffect, Nothing, Outputs, AdvancesTape, Ends, ClearsTimer, PortAnswer, Passes, AsksQueue, Refuses, port_load, port_store, tape_answer, give_answer, end_of_code, fault_answer}
-use Rattle.alike_laws.specs.AlikeHarts.{AreCellsAlike, AreContextsAlike, AreHeldAlike}
+use Rattle.core_model.specs.AlikeHarts.{AreCellsAlike, AreContextsAlike, AreHeldAlike}
 use Rattle.alike_laws.specs.AlikeSteps.{SameNumber}
 use Rattle.alike_laws.proofs.CellsAlike.{public-cells}
 

@@ -18,7 +18,7 @@ use Rattle.hart_model.specs.Context.{ContextState}
 use Rattle.hart_model.specs.Ports.{Nothing, PortAnswer, Passes, AsksQueue, Refuses, port_at, port_load, port_store}
 use Rattle.hart_model.specs.HartState.{HartState}
 use Rattle.hart_model.specs.MachineStep.{Reach, Finds, NeedsQueue, Refused, machine_bases, Target, AtPlace, AtPort, Nowhere, place_or_port, target_of, load_reach, store_reach, load_by_port, store_by_port, csr_reach, enters_nothing}
-use Rattle.alike_laws.specs.AlikeHarts.{AreCellsAlike, AreHeldAlike, AreHartsAlike}
+use Rattle.core_model.specs.AlikeHarts.{AreCellsAlike, AreHeldAlike, AreHartsAlike}
 use Rattle.alike_laws.specs.AlikeSteps.{SameNumber}
 use Rattle.alike_laws.proofs.CellsAlike.{cell-refl}
 use Rattle.alike_laws.proofs.CellsHarts.{cell-alike, machine-bases-alike}

@@ -9,7 +9,7 @@ use Rattle.hart_model.specs.Taint.{machine_tag, mixture_of, tags_of}
 use Rattle.hart_model.specs.Writes.{CellWrite, cell_writes, placed}
 use Rattle.hart_model.specs.MachineStep.{OperandCells, operand_tag, tag_of_word}
 use Rattle.core_model.specs.LowEquivalence.{ArePairwise}
-use Rattle.alike_laws.specs.AlikeHarts.{AreCellsAlike}
+use Rattle.core_model.specs.AlikeHarts.{AreCellsAlike}
 use Rattle.alike_laws.specs.AlikeSteps.{AreWritesAlike}
 
 -- both cells, or none, and alike

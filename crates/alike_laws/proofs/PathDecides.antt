@@ -22,7 +22,7 @@ use Rattle.hart_model.specs.Context.{ContextState, pc_word}
 use Rattle.hart_model.specs.Ports.{port_at}
 use Rattle.hart_model.specs.MachineStep.{machine_bases}
 use Rattle.hart_model.specs.HartState.{HartState, held_words, hart_cell}
-use Rattle.abstract_run.specs.AbstractCell.{AbstractCell, Zero, SlotAddress, PublicAny, PublicNumber, TaskReg, OldSlotWord, TapeWord, AnyTagged, is_tagged}
+use Rattle.abstract_run.specs.AbstractCell.{AbstractCell, Zero, SlotAddress, PublicAny, PublicNumber, TaskReg, OldSlotWord, GivenCell, AnyTagged, is_tagged}
 use Rattle.abstract_run.specs.AbstractEffect.{AbstractWrite, stand_in, reached_from, place_from, word_at_place, by_word, reg_cell, abstract_effect}
 use Rattle.abstract_run.specs.Concretization.{Setting, IsSound, Denotes, number_of}
 use Rattle.abstract_run.specs.SymbolicPath.{PathState, PathStep, AreSo, IsTaken, goes_on, port_a_write, port_b_write, plain_step, branch_step, load_step, store_step, store_writes, port_store_step, port_from, end_step, end_of_code, end_with, IsAsPathSays}
@@ -40,7 +40,7 @@ reached-public may_reach s (PublicNumber value) cell o place e d = denoted-publi
 reached-public may_reach s PublicAny cell o place e d = d
 reached-public may_reach s (TaskReg number) cell o place e d = absurd (cc e)
 reached-public may_reach s (OldSlotWord index) cell o place e d = absurd (cc e)
-reached-public may_reach s TapeWord cell o place e d = absurd (cc e)
+reached-public may_reach s GivenCell cell o place e d = absurd (cc e)
 reached-public may_reach s AnyTagged cell o place e d = absurd (cc e)
 
 -- a place and none

@@ -3,7 +3,7 @@ use Rattle.std.proofs.Common.{◌≡◌, ℕ, ◌<◌, ◌==◌, Bool, true, fal
 use Rattle.std.proofs.lemmas.Bool.{eqb-false}
 use Rattle.isa_model.specs.declared.task.Task.{Task}
 use Rattle.isa_model.specs.Effect.{Effect}
-use Rattle.isa_model.specs.Alone.{alone_at, last_of}
+use Rattle.isa_model.specs.Alone.{alone_at}
 use Rattle.hart_model.specs.Csrs.{CsrFile}
 use Rattle.hart_model.specs.Traps.{fuel_cause, timer_cause, interrupt_of}
 use Rattle.hart_model.specs.Context.{ContextState, task_of}
@@ -13,10 +13,10 @@ use Rattle.hart_model.specs.UserStep.{user_step, is_fuel_used, by_interrupt, use
 use Rattle.hart_model.specs.UserLaws.{alone_effect}
 use Rattle.hart_model.proofs.UserStepIsAlone.{user_step_is_alone}
 use Rattle.core_model.specs.LowEquivalence.{AreTasksAlike}
-use Rattle.core_laws.specs.Starts.{IsUserState}
+use Rattle.core_model.specs.Routines.{IsUserState}
 use Rattle.core_laws.proofs.AloneNext.{still-runs}
 use Rattle.core_laws.proofs.UserStands.{at-run-alone, user_interrupt, interrupt-is}
-use Rattle.alike_laws.specs.AlikeHarts.{AreContextsAlike, AreHeldAlike, AreHartsAlike}
+use Rattle.core_model.specs.AlikeHarts.{AreContextsAlike, AreHeldAlike, AreHartsAlike}
 use Rattle.alike_laws.specs.AlikeSteps.{AreStepsAlike}
 use Rattle.alike_laws.proofs.UserCsrs.{csrs-agree}
 use Rattle.alike_laws.proofs.UserTraps.{AreEffectsAlike, trap-alike, effects-step-alike}
@@ -44,7 +44,7 @@ contexts_alike o r c d alike holds other = subst (λ q. AreHeldAlike (Some c) q)
 
 module _ (tasks others : List Task) (number : ℕ) (h g : HartState) (c d : ContextState)
     (is : IsUserState tasks number h c) (other : IsUserState others number g d)
-    (alike_tasks : AreTasksAlike (task_of c.body) (task_of d.body)) (last : (last_of (task_of c.body)).pc ≡ (last_of (task_of d.body)).pc)
+    (alike_tasks : AreTasksAlike (task_of c.body) (task_of d.body))
     (alike : AreHartsAlike h g) where
   held : AreContextsAlike c d
   held = contexts_alike h.held g.held c d alike.held is.user.held other.user.held
@@ -90,7 +90,7 @@ module _ (tasks others : List Task) (number : ℕ) (h g : HartState) (c d : Cont
       let runs' : (alone_at U c.body.count).end ≡ None =
       ap (λ n. (alone_at U n).end) count ∙ still-runs U d.body.count other.user.body.is_running left' in
       subst (λ n. AreEffectsAlike (alone_effect T (alone_at T c.body.count)) (alone_effect U (alone_at U n))) count
-      (control-effects T U alike_tasks last c.body.count left runs runs')
+      (control-effects T U alike_tasks c.body.count left runs runs')
 
   by_instr : c.body.count < c.body.fuel → interrupt_of h.csrs (is_fuel_used h.held) ≡ None → interrupt_of g.csrs (is_fuel_used g.held) ≡ None
       → AreStepsAlike (user_step h) (user_step g)
@@ -110,6 +110,6 @@ module _ (tasks others : List Task) (number : ℕ) (h g : HartState) (c d : Cont
       let within = is.within in
       by_instr (omega arith) (interrupt_here false false test is_pending) (interrupt_there false false test is_pending)
 
-  -- Two harts in user mode step alike, where their tasks are alike and the last states of their runs alone have one pc.
+  -- Two harts in user mode step alike, where their tasks are alike.
   pub user-alike : AreStepsAlike (user_step h) (user_step g)
   user-alike = by_tests (c.body.count == c.body.fuel) h.csrs.is_timer_pending refl refl

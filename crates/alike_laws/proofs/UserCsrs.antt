@@ -2,7 +2,7 @@
 use Rattle.std.proofs.Common.{◌≡◌, ap, sym, ◌∙◌}
 use Rattle.hart_model.specs.declared.tag.Cell.{Cell}
 use Rattle.hart_model.specs.Csrs.{CsrFile}
-use Rattle.alike_laws.specs.AlikeHarts.{AreCsrsAlike}
+use Rattle.core_model.specs.AlikeHarts.{AreCsrsAlike}
 
 -- what doesn't look at mscratch is the same
 pub csrs-agree : {A : Type 0} (f : CsrFile → A) (a b : CsrFile) → AreCsrsAlike a b

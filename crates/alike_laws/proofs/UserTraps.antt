@@ -13,7 +13,7 @@ use Rattle.hart_model.specs.HartState.{HartState, bases_of}
 use Rattle.hart_model.specs.Writes.{CellWrite, HartAndProbes, cell_writes, placed, after_writes}
 use Rattle.hart_model.specs.UserStep.{held_with_next_count, with_next_count, after_trap, after_user_writes, after_user_effect, user_writes}
 use Rattle.core_model.specs.LowEquivalence.{ArePairwise}
-use Rattle.alike_laws.specs.AlikeHarts.{AreCellsAlike, AreHeldAlike, AreCsrsAlike, AreHartsAlike}
+use Rattle.core_model.specs.AlikeHarts.{AreCellsAlike, AreHeldAlike, AreCsrsAlike, AreHartsAlike}
 use Rattle.alike_laws.specs.AlikeSteps.{AreWritesAlike, AreLeftAlike, AreStepsAlike}
 use Rattle.alike_laws.proofs.CellsHarts.{bases-alike}
 use Rattle.alike_laws.proofs.CellsWrites.{writes-leave-alike}

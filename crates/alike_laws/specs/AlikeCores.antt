@@ -15,7 +15,7 @@ use Rattle.core_model.specs.LowEquivalence.{ArePairwise, AgreePublicly}
 use Rattle.core_laws.specs.KernelStates.{KernelParts}
 use Rattle.core_laws.specs.Starts.{IsOnItsWay}
 use Rattle.core_laws.specs.OneHart.{IsGot}
-use Rattle.alike_laws.specs.AlikeHarts.{AreBodiesAlike, AreContextsAlike, AreHeldAlike, AreHartsAlike}
+use Rattle.core_model.specs.AlikeHarts.{AreBodiesAlike, AreContextsAlike, AreHeldAlike, AreHartsAlike}
 use Rattle.alike_laws.specs.AlikeSteps.{LeadBoth}
 
 -- Two ended tasks: the same number and count, outputs of one length, and ends of one kind.

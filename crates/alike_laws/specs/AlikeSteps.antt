@@ -13,8 +13,8 @@ use Rattle.hart_model.specs.Writes.{CellWrite, HartAndProbes}
 use Rattle.hart_model.specs.StepResult.{StepResult, Steps, Wants, Wedged}
 use Rattle.hart_model.specs.HartStep.{hart_step}
 use Rattle.core_model.specs.LowEquivalence.{ArePairwise, AgreePublicly}
-use Rattle.abstract_run.specs.Ways.{ticked_if}
-use Rattle.alike_laws.specs.AlikeHarts.{AreCellsAlike, AreHartsAlike}
+use Rattle.core_model.specs.Routines.{ticked_if}
+use Rattle.core_model.specs.AlikeHarts.{AreCellsAlike, AreHartsAlike}
 
 -- two writes go to one place, with cells that are alike
 pub record AreWritesAlike (w v : CellWrite) : Type 0 where

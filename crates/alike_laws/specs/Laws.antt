@@ -1,19 +1,21 @@
--- What holds of the cores of alike bundles, after every list of events (this project's own).
-use Rattle.std.specs.Prelude.{◌≡◌, List}
-use Rattle.isa_model.specs.declared.task.Task.{Task}
-use Rattle.isa_model.specs.Alone.{last_of}
+-- What holds of the cores of alike bundles, after every list of events (this project's own). Each is the contract of a law in
+-- `src/laws.rt`.
+use Rattle.std.specs.Prelude.{List}
 use Rattle.core_model.specs.declared.event.Event.{Event}
 use Rattle.core_model.specs.declared.loaded.Loaded.{Loaded}
 use Rattle.core_model.specs.Core.{log_of}
 use Rattle.core_model.specs.Loaded.{IsLoaded}
-use Rattle.core_model.specs.LowEquivalence.{ArePairwise, AreAlike, AgreePublicly}
-use Rattle.core_laws.specs.KernelStates.{emitted_parts}
+use Rattle.core_model.specs.LowEquivalence.{AreAlike, AgreePublicly}
+use Rattle.core_model.specs.Routines.{Saves, Restores}
+use Rattle.core_laws.specs.KernelStates.{KernelParts, IsKernel, IsAlikeKernel, own_save, own_restore}
 
--- The last states of two runs alone have one pc. Their controls don't tell it: no item has where the last instruction goes on to.
-abbrev pub HaveOneLastPc : Task → Task → Type 0
-HaveOneLastPc T U = (last_of T).pc ≡ (last_of U).pc
-
--- With the kernel of this project the logs of alike bundles, whose runs alone end at one pc each, agree publicly after every list of events.
+-- With a kernel whose parts do alike on harts that are alike, the logs of alike bundles agree publicly after every list of events.
 abbrev pub AlikeLogsAgree : Type 0
-AlikeLogsAgree = (loaded other : Loaded) → IsLoaded loaded → IsLoaded other → AreAlike loaded other → ArePairwise HaveOneLastPc loaded.tasks other.tasks
-    → (events : List Event) → AgreePublicly (log_of loaded emitted_parts.code events) (log_of other emitted_parts.code events)
+AlikeLogsAgree = (k : KernelParts) → IsKernel k → IsAlikeKernel k → (loaded other : Loaded) → IsLoaded loaded → IsLoaded other → AreAlike loaded other
+    → (events : List Event) → AgreePublicly (log_of loaded k.code events) (log_of other k.code events)
+
+-- The words of this project's own save part save, whatever code follows them, and those of its restore part restore, whatever code stands
+-- before and after them: by their values, their tags and entries, and on two harts that are alike.
+pub record OwnPartsDo : Type 0 where
+  pub saves : Saves own_save
+  pub restores : Restores own_restore

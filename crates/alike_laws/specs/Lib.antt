@@ -1,4 +1,3 @@
-pub mod AlikeHarts
 pub mod AlikeSteps
 pub mod AlikeCores
 pub mod Laws

@@ -1,12 +1,22 @@
-#![tactic(auto)]
-//! The law of the cores of alike bundles: the contract of a function that does nothing.
+//! Laws of the cores of alike bundles: each is the contract of a function that does nothing.
 
-ghost use Rattle.alike_laws.specs.Laws.{AlikeLogsAgree};
+ghost use Rattle.core_laws.specs.KernelStates.{IsAlikeKernel, emitted_parts};
+ghost use Rattle.alike_laws.specs.Laws.{AlikeLogsAgree, OwnPartsDo};
 
-/// With the kernel of this project the logs of alike bundles agree publicly after every list of events: the same harts wrote the same
-/// latches at the same pcs with the same whys, and each value whose why leaves it public is the same. The runs alone of two tasks of one
-/// number have to end at one pc: their controls don't tell where the last instruction goes on to, and a task that has used its fuel is
-/// saved there.
+/// With every kernel whose save part and restore part do alike on harts that are alike, the logs of alike bundles agree publicly after
+/// every list of events: the same harts wrote the same latches at the same pcs with the same whys, and each value whose why leaves it
+/// public is the same.
 pub fn alike_logs_agree()
     ensures agree { AlikeLogsAgree }
+{}
+
+/// The kernel's own save part saves, and its own restore part restores, by themselves, whatever code stands around them: the values, the
+/// tags and entries, and two runs that are alike.
+pub fn own_parts_do()
+    ensures parts { OwnPartsDo }
+{}
+
+/// The kernel of this project is one whose parts do alike.
+pub fn emitted_is_alike()
+    ensures alike { IsAlikeKernel emitted_parts }
 {}

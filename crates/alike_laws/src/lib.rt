@@ -5,4 +5,4 @@
 
 pub mod laws;
 
-pub use laws::alike_logs_agree;
+pub use laws::{alike_logs_agree, emitted_is_alike, own_parts_do};
