@@ -17,6 +17,7 @@ use Rattle.core_laws.specs.Kept.{IsCoreKept}
 use Rattle.core_laws.proofs.Boot.{each_valid, boot-kept}
 use Rattle.core_laws.proofs.Proved.{kernel-harts}
 use Rattle.context_slot.specs.Fresh.{IsFresh}
+use Rattle.kernel_core.specs.Kernels.{IsWholeKernel}
 use Rattle.kernel_core.specs.Running.{IsRunKept, beyond}
 use Rattle.ready_queue.specs.Bodies.{AreFreshFrom}
 
@@ -84,7 +85,7 @@ module _ (loaded : Loaded) (is : IsLoaded loaded) where
   }
 
 -- a core with such a board and such harts, and with nothing counted, was told nothing yet
-pub told-boot : {K : Type 0} (loaded : Loaded) (k : KernelParts) (c : CoreValue K) → IsLoaded loaded → IsKernel k → c.run.kernel ≡ k → c.tasks ≡ length loaded.tasks
+pub told-boot : {K : Type 0} (loaded : Loaded) (k : KernelParts) (c : CoreValue K) → IsLoaded loaded → IsWholeKernel k → c.run.kernel ≡ k → c.tasks ≡ length loaded.tasks
     → c.run.board.lists ≡ boot_board loaded.slots (bodies_from 0 loaded.tasks) → c.run.harts ≡ harts_from 0 loaded.harts k.code.take → c.log.tally ≡ counts_of []
     → IsCoreOf (told_at_boot loaded k) c
 unfolding core_from

@@ -1,3 +1,4 @@
+pub mod LinkedKernel
 pub mod Wanted
 pub mod RunFacts
 pub mod RunAfter

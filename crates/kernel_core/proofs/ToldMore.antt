@@ -103,7 +103,7 @@ module _ {K : Type 0} (t : Told) (event : Event) (c after : CoreValue K) (is : I
   -- and it is sound
   pub told-sound : IsSoundCore (given t event)
   told-sound = record {
-    sound = stays-sound kernel-harts t.kernel is.is_kernel t.loaded is.is_loaded (t.events ++ event ∷ []);
-    homes = one-home-each kernel-harts t.kernel is.is_kernel t.loaded is.is_loaded (t.events ++ event ∷ []);
-    outputs = outputs-stay kernel-harts t.kernel is.is_kernel t.loaded is.is_loaded (t.events ++ event ∷ []);
+    sound = stays-sound kernel-harts t.kernel is.is_kernel.kernel t.loaded is.is_loaded (t.events ++ event ∷ []);
+    homes = one-home-each kernel-harts t.kernel is.is_kernel.kernel t.loaded is.is_loaded (t.events ++ event ∷ []);
+    outputs = outputs-stay kernel-harts t.kernel is.is_kernel.kernel t.loaded is.is_loaded (t.events ++ event ∷ []);
   }

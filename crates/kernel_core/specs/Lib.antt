@@ -1,3 +1,4 @@
+pub mod Kernels
 pub mod Counted
 pub mod Running
 pub mod Going

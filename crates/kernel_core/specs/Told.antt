@@ -5,11 +5,12 @@ use Rattle.core_model.specs.declared.loaded.Loaded.{Loaded}
 use Rattle.core_model.specs.Core.{CoreState, core_after}
 use Rattle.core_model.specs.Invariant.{IsCoreSound}
 use Rattle.core_model.specs.Loaded.{IsLoaded}
-use Rattle.core_laws.specs.KernelStates.{KernelParts, IsKernel}
+use Rattle.core_laws.specs.KernelStates.{KernelParts}
 use Rattle.core_laws.specs.Homes.{HasExactHomes}
 use Rattle.core_laws.specs.Outputs.{AreOutputsSound}
 use Rattle.probe_log.specs.Counts.{StandFor}
 use Rattle.kernel_core.specs.Counted.{CountedValue}
+use Rattle.kernel_core.specs.Kernels.{IsWholeKernel}
 use Rattle.kernel_core.specs.Running.{RunValue}
 
 -- the bundle, the kernel, and the events so far
@@ -38,7 +39,7 @@ pub record CoreValue (K : Type 0) : Type 0 where
 -- It is that of what was told, and the counts are those of its log.
 pub record IsCoreOf {K : Type 0} (t : Told) (c : CoreValue K) : Type 0 where
   pub is_loaded : IsLoaded t.loaded
-  pub is_kernel : IsKernel t.kernel
+  pub is_kernel : IsWholeKernel t.kernel
   pub kernel : c.run.kernel ≡ t.kernel
   pub tasks : c.tasks ≡ length t.loaded.tasks
   pub board : c.run.board.lists ≡ (core_of t).board
