@@ -3,5 +3,6 @@ pub mod CoreFacts
 pub mod FewEntries
 pub mod Playing
 pub mod Reporting
+pub mod FullLogs
 pub mod SoundScripts
 pub mod Answering

@@ -1,5 +1,5 @@
 -- What the core of a bundle comes to by the bundle's list of events, and whether its log can be kept.
-use Rattle.std.specs.Prelude.{ℕ, Bool, false, ◌||◌, List, [], ◌∷◌, length, nat_lt}
+use Rattle.std.specs.Prelude.{◌≡◌, ◌↔◌, ℕ, ◌<◌, Bool, true, false, ◌||◌, List, [], ◌∷◌, ◌++◌, length, nat_lt}
 use Rattle.hart_model.specs.declared.probe.Probe.{Probe}
 use Rattle.core_model.specs.declared.event.Event.{Event}
 use Rattle.core_model.specs.declared.loaded.Loaded.{Loaded}
@@ -33,3 +33,15 @@ is_script_above most loaded = is_log_above most kernel_code.words (boot_core loa
 -- The log is full: before one of the events it has more than 999,994 entries, so that of its room for 1,000,000 fewer than six are left.
 abbrev pub is_log_full : Loaded → Bool
 is_log_full loaded = is_script_above 999994 loaded
+
+-- The events of the bundle are a front, one event more and a rest, and the log of the front has more than 999,994 entries.
+pub record HasLongLog (loaded : Loaded) : Type 0 where
+  pub front : List Event
+  pub event : Event
+  pub rest : List Event
+  pub parts : events_of loaded.events ≡ front ++ event ∷ rest
+  pub long : 999994 < length (log_of loaded kernel_code front)
+
+-- The log is full exactly where some beginning of the bundle's events, short of all of them, has a log of more than 999,994 entries.
+abbrev pub LogIsFullExactly : Type 0
+LogIsFullExactly = (loaded : Loaded) → (is_log_full loaded ≡ true) ↔ HasLongLog loaded

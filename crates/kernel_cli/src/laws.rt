@@ -2,6 +2,7 @@
 
 ghost use Rattle.std.specs.Prelude.{◌≡◌, ◌↔◌, ℕ, List, Some};
 ghost use Rattle.kernel_cli.specs.Commands.{SpellsCommand, command_of};
+ghost use Rattle.kernel_cli.specs.Scripts.{LogIsFullExactly};
 ghost use Rattle.kernel_cli.specs.Soundness.{AreScriptsSound};
 ghost use Rattle.kernel_cli.specs.declared.command.Command.{Command};
 
@@ -13,6 +14,11 @@ use rv_loader::loading_is_sound;
 /// The function that decides the words gives exactly the command that they spell.
 pub fn commands_are_decided()
     ensures decided { (words : List (List ℕ)) (command : Command) → (command_of words ≡ Some command) ↔ SpellsCommand words command }
+{}
+
+/// The log is full exactly where some beginning of the bundle's events, short of all of them, has a log of more than 999,994 entries.
+pub fn log_is_full_exactly()
+    ensures full { LogIsFullExactly }
 {}
 
 /// The core of every bundle that bytes are read and loaded as is sound after any number of the bundle's events, each task has exactly
