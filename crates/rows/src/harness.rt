@@ -96,22 +96,23 @@ pub(crate) fn writes<R: Abort + AllocGlobal>(
     runs(rt, &[command], input, SOUND, number, written.as_bytes(), 0)
 }
 
-/// What a command writes over an input that is read to its end, from a sound edge.
+/// The sink over which words have written their text, from a sound edge with so much room in bytes; the input is read to its end.
 pub(crate) fn output_of<R: Abort + AllocGlobal>(
     rt: &R,
-    command: &str,
+    words: &[&str],
     input: &[u8],
-) -> Result<Vec<u8>, Fail> {
+    room: usize,
+) -> Result<MemSink, Fail> {
     let alloc = rt.alloc();
-    let words = words_of(alloc, &[command])?;
+    let words = words_of(alloc, words)?;
     let mut src = MemSource::new(input.to_vec(alloc)?, 4096, Vec::new(alloc));
-    let mut sink = MemSink::new(alloc, 4096, 4096, Vec::new(alloc))?;
+    let mut sink = MemSink::new(alloc, room, 4096, Vec::new(alloc))?;
     let status = one_thread(alloc, words.as_slice(), &mut src, &mut sink);
     assert_eq!(rt;
         status_number(status),
         0,
-        "{command}, {} bytes",
+        "{words:?}, {} bytes",
         input.len()
     );
-    Ok(sink.bytes().to_vec(alloc)?)
+    Ok(sink)
 }

@@ -101,10 +101,10 @@ fn reports_of_several_tasks(rt: HostRuntime) -> Result<(), Fail> {
             input.extend_from_slice(TASK.as_bytes())?;
         }
         input.extend_from_slice(events.as_bytes())?;
-        let written = output_of(&rt, "script", input.as_slice())?;
+        let written = output_of(&rt, &["script"], input.as_slice(), 4096)?;
         for line in *lines {
             assert!(rt;
-                has_part(written.as_slice(), line.as_bytes()),
+                has_part(written.bytes(), line.as_bytes()),
                 "{events} {line}"
             );
         }
@@ -119,8 +119,8 @@ fn each_task_ends_as_alone(rt: HostRuntime) -> Result<(), Fail> {
             rt.alloc(),
             &["bundle 1\nslots 1\n", task, "endtask\nevents g0*900\n"],
         )?;
-        let written = output_of(&rt, "script", input.as_slice())?;
-        assert!(rt; has_part(written.as_slice(), report.as_bytes()), "{task}");
+        let written = output_of(&rt, &["script"], input.as_slice(), 4096)?;
+        assert!(rt; has_part(written.bytes(), report.as_bytes()), "{task}");
     }
     Ok(())
 }
@@ -191,13 +191,37 @@ fn preempted_after_every_instruction(rt: HostRuntime) -> Result<(), Fail> {
         input.extend_from_slice(steps.as_bytes())?;
     }
     input.extend_from_slice(b"\n")?;
-    let written = output_of(&rt, "script", input.as_slice())?;
+    let written = output_of(&rt, &["script", "probes"], input.as_slice(), 4_194_304)?;
     for line in [
         "order 0*69\n",
         "task 0: exited 00000000 count 34\n",
         "unexplained 0\n",
     ] {
-        assert!(rt; has_part(written.as_slice(), line.as_bytes()), "{line}");
+        assert!(rt; has_part(written.bytes(), line.as_bytes()), "{line}");
     }
     Ok(())
+}
+
+/// How many lines a text has.
+fn lines_of(text: &[u8]) -> usize {
+    text.iter().filter(|byte| **byte == b'\n').count()
+}
+
+#[test]
+fn a_log_at_its_limit(rt: HostRuntime) -> Result<(), Fail> {
+    let alloc = rt.alloc();
+    let input = joined(alloc, &[FORTY_TWO, "events g0*998752\n"])?;
+    let written = output_of(&rt, &["script", "probes"], input.as_slice(), 100_000_000)?;
+    // The listing has a line an entry, and the report of one task has six.
+    assert_eq!(rt; lines_of(written.bytes()), 999_995 + 6);
+    let input = joined(alloc, &[FORTY_TWO, "events g0*998753\n"])?;
+    runs(
+        &rt,
+        &["script", "probes"],
+        input.as_slice(),
+        SOUND,
+        7,
+        b"log full\n",
+        0,
+    )
 }
