@@ -3,13 +3,9 @@
 # Every task ends with its first instruction, so that it is reading, assembling and printing that is measured.
 # Run it with the program built, on an otherwise idle machine; a number as its argument is the number of runs, of which the
 # fastest counts (5). It ends with 1 where the whole takes over 3 times as long as the half, or a run doesn't end with status 0.
-set -eu
-runs=${1:-5}
-cd "$(dirname "$0")/.."
-program=crates/msktask/out/msktask
-[ -x "$program" ] || { echo "$program isn't built" >&2; exit 2; }
-room=$(mktemp -d)
-trap 'rm -rf "$room"' EXIT
+# shellcheck source=bench/common.sh
+source "$(dirname "$0")/common.sh"
+want_program
 
 # tasks NUMBER: tasks of 4,096 words
 tasks() {
@@ -63,18 +59,6 @@ worlds() {
     }'
 }
 
-# seconds COMMAND FILE: those of the fastest run
-seconds() {
-    local best="" start end
-    for ((run = 0; run < runs; run++)); do
-        start=$(date +%s.%N)
-        "$program" "$1" <"$2" >"$room/printed" || { echo "$1 ended with $?" >&2; head -c 200 "$room/printed" >&2; exit 1; }
-        end=$(date +%s.%N)
-        best=$(awk -v a="$start" -v b="$end" -v c="$best" 'BEGIN { t = b - a; if (c == "" || t < c) c = t; printf "%.4f", c }')
-    done
-    echo "$best"
-}
-
 # peak COMMAND FILE: the most memory of a run in MB. Without GNU time, python3's own memory is the least that is told.
 peak() {
     if [ -x /usr/bin/time ]; then
@@ -94,7 +78,7 @@ row() {
     for size in "$4" "$5" "$6"; do
         "$3" "$size" >"$room/input"
         bytes+=("$(wc -c <"$room/input")")
-        times+=("$(seconds "$2" "$room/input")")
+        times+=("$(seconds "$room/input" "$program" "$2")")
         peaks+=("$(peak "$2" "$room/input")")
     done
     awk -v name="$1" -v command="$2" -v a="${times[0]}" -v b="${times[1]}" -v c="${times[2]}" -v p="${peaks[0]}" -v q="${peaks[1]}" \

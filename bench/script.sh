@@ -3,30 +3,13 @@
 # the time grows from half of the events. The task is the example forty-two; most events are steps of the idle loop.
 # Run it with the program built, on an otherwise idle machine; a number as its argument is the number of runs, of which the fastest
 # counts (5). It ends with 1 where twice the events cost over 2.3 times, or a run doesn't end with status 0.
-set -eu
-runs=${1:-5}
-cd "$(dirname "$0")/.."
-program=crates/msktask/out/msktask
-[ -x "$program" ] || { echo "$program isn't built" >&2; exit 2; }
-room=$(mktemp -d)
-trap 'rm -rf "$room"' EXIT
+# shellcheck source=bench/common.sh
+source "$(dirname "$0")/common.sh"
+want_program
 
 # bundle EVENTS: the example with that many steps of hart 0
 bundle() {
     { cat examples/forty-two.bundle && echo "events g0*$1"; } >"$room/$1.bundle"
-}
-
-# seconds WORDS EVENTS: the fastest of some runs
-seconds() {
-    local best="" start end
-    for _ in $(seq "$runs"); do
-        start=$(date +%s.%N)
-        # shellcheck disable=SC2086
-        "$program" $1 <"$room/$2.bundle" >"$room/text"
-        end=$(date +%s.%N)
-        best=$(awk -v a="$start" -v b="$end" -v c="$best" 'BEGIN { t = b - a; if (c == "" || t < c) c = t; printf "%.6f", c }')
-    done
-    echo "$best"
 }
 
 # kilobytes WORDS EVENTS: the peak memory of a run
@@ -47,8 +30,9 @@ fail=0
 for row in "script 524288 1048576" "script_probes 499376 998752"; do
     read -r words half whole <<<"$row"
     words=${words/_/ }
-    h=$(seconds "$words" "$half")
-    w=$(seconds "$words" "$whole")
+    read -ra command <<<"$program $words"
+    h=$(seconds "$room/$half.bundle" "${command[@]}")
+    w=$(seconds "$room/$whole.bundle" "${command[@]}")
     k=$(kilobytes "$words" "$whole")
     awk -v c="$words" -v n="$whole" -v h="$h" -v w="$w" -v k="$k" 'BEGIN {
         printf "%s: %d events in %.3f s, %.0f a second, at most %d MB; twice the events cost %.2f times\n", c, n, w, n / w, k / 1000, w / h
