@@ -12,7 +12,8 @@ use Rattle.core_model.specs.Routines.{run_of_part}
 use Rattle.abstract_run.specs.AbstractCell.{PublicAny}
 use Rattle.abstract_run.specs.Concretization.{Setting}
 use Rattle.abstract_run.proofs.ComputedPaths.{every_word}
-use Rattle.core_laws.specs.KernelStates.{KernelParts, IsKernel, IsAlikeKernel, middle_instrs, middle_len, middle_at, saved_cells, at_start}
+use Rattle.core_laws.specs.KernelStates.{KernelParts, IsKernel, IsAlikeKernel, middle_instrs, middle_len, middle_at}
+use Rattle.core_laws.proofs.KernelCells.{saved_cells, at_start}
 use Rattle.core_laws.specs.Starts.{IsAtTrap}
 use Rattle.core_laws.proofs.Trapped.{trapped_setting, trap-setting-sound, words_of, AreOwn}
 use Rattle.core_laws.proofs.Saved.{IsSaved, EndsThere, runs-saved, saved-says}

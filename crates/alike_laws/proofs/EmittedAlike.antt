@@ -21,7 +21,8 @@ use Rattle.abstract_run.proofs.PathParts.{next_path, first-parts}
 use Rattle.abstract_run.proofs.ComputedPaths.{straight, Ends}
 use Rattle.abstract_run.proofs.PartSteps.{is_of_part, is-of-part, IsPartStepped, part-steps, only-writes}
 use Rattle.abstract_run.proofs.PartRuns.{after_probes}
-use Rattle.core_laws.specs.KernelStates.{emitted_parts, IsAlikeKernel, own_save, own_restore, trapped_cells, saved_cells, at_start}
+use Rattle.core_laws.specs.KernelStates.{emitted_parts, IsAlikeKernel, own_save, own_restore}
+use Rattle.core_laws.proofs.KernelCells.{trapped_cells, saved_cells, at_start}
 use Rattle.core_laws.proofs.Trapped.{saving_setting, saving-sound, trap-says}
 use Rattle.core_laws.proofs.TakenStands.{taken_setting, taken-setting-sound, pc_of}
 use Rattle.core_laws.proofs.Emitted.{reached, save_part, restore_part, save-of-part, restore-of-part, save-stands, restore-stands, save-ends, restore-ends}

@@ -18,7 +18,8 @@ use Rattle.abstract_run.specs.SymbolicPath.{Question, AreSo, path_of, IsAsPathSa
 use Rattle.abstract_run.specs.Ways.{Leads}
 use Rattle.abstract_run.specs.Laws.{PathsLead}
 use Rattle.abstract_run.proofs.ComputedPaths.{every_word}
-use Rattle.core_laws.specs.KernelStates.{KernelParts, IsKernel, middle_instrs, middle_len, middle_at, give_done_index, bound_cells}
+use Rattle.core_laws.specs.KernelStates.{KernelParts, IsKernel, middle_instrs, middle_len, middle_at, give_done_index}
+use Rattle.core_laws.proofs.KernelCells.{bound_cells}
 use Rattle.core_laws.specs.Starts.{IsAtTrap, IsGivingDone}
 use Rattle.core_laws.proofs.Trapped.{trapped_setting, trap-setting-sound, AreOwn}
 use Rattle.core_laws.proofs.Saved.{EndsThere, trap-leads}

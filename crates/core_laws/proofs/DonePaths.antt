@@ -12,7 +12,8 @@ use Rattle.abstract_run.specs.AbstractCell.{AbstractCell, Zero, SlotAddress, Pub
 use Rattle.abstract_run.specs.Concretization.{Setting}
 use Rattle.abstract_run.specs.SymbolicPath.{PathState, Path, path_from, path_of, Question, IsTaken}
 use Rattle.abstract_run.proofs.ComputedPaths.{every_word, straight}
-use Rattle.core_laws.specs.KernelStates.{middle_instrs, saved_cells, bound_cells, at_start, give_done_index}
+use Rattle.core_laws.specs.KernelStates.{middle_instrs, give_done_index}
+use Rattle.core_laws.proofs.KernelCells.{saved_cells, bound_cells, at_start}
 use Rattle.core_laws.proofs.ReadyPaths.{service_answers}
 
 -- the last 32 instructions of a way scrub the slot and set x6

@@ -14,7 +14,8 @@ use Rattle.abstract_run.specs.SymbolicPath.{StandAt, path_from, path_of}
 use Rattle.abstract_run.proofs.Stand.{AreWordsOf, stand-at}
 use Rattle.abstract_run.proofs.ComputedPaths.{straight, Ends}
 use Rattle.abstract_run.proofs.PartSteps.{is_of_part}
-use Rattle.core_laws.specs.KernelStates.{emitted_parts, IsLinked, middle_at, middle_len, middle_instrs, saved_cells, trapped_cells, restored_cells, at_start, own_save, own_restore}
+use Rattle.core_laws.specs.KernelStates.{emitted_parts, IsLinked, middle_at, middle_len, middle_instrs, own_save, own_restore}
+use Rattle.core_laws.proofs.KernelCells.{saved_cells, trapped_cells, restored_cells, at_start}
 
 -- the instructions of words
 abbrev instr_or : Option Instr → Instr

@@ -18,7 +18,8 @@ use Rattle.abstract_run.specs.SymbolicPath.{IsAsPathSays}
 use Rattle.abstract_run.proofs.OneWrite.{regs-get}
 use Rattle.abstract_run.proofs.ComputedPaths.{straight}
 use Rattle.abstract_run.proofs.PartRuns.{comes-map, IsOnPath, part-sound, part-ends}
-use Rattle.core_laws.specs.KernelStates.{numbered, saved_cells, restored_cells, at_start, own_restore}
+use Rattle.core_laws.specs.KernelStates.{own_restore}
+use Rattle.core_laws.proofs.KernelCells.{numbered, saved_cells, restored_cells, at_start}
 use Rattle.core_laws.proofs.OwnCells.{own-value}
 use Rattle.core_laws.proofs.Numbered.{numbered-get}
 use Rattle.core_laws.proofs.TakenStands.{taken_setting, taken-setting-sound, pc_of, words-stand, kernel-regs-stand, data-truthful}

@@ -20,7 +20,8 @@ use Rattle.abstract_run.specs.Concretization.{Setting, IsSound}
 use Rattle.abstract_run.specs.SymbolicPath.{IsAsPathSays}
 use Rattle.abstract_run.proofs.ComputedPaths.{straight}
 use Rattle.abstract_run.proofs.PartRuns.{comes-map, IsOnPath, part-sound, part-ends}
-use Rattle.core_laws.specs.KernelStates.{bound_cells, saved_cells, trapped_cells, at_start, own_save}
+use Rattle.core_laws.specs.KernelStates.{own_save}
+use Rattle.core_laws.proofs.KernelCells.{bound_cells, saved_cells, trapped_cells, at_start}
 use Rattle.core_laws.specs.Starts.{IsAtTrap}
 use Rattle.core_laws.proofs.OwnCells.{own-value}
 use Rattle.core_laws.proofs.Numbered.{numbered-get, numbered-skip}

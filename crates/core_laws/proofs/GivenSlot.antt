@@ -4,7 +4,7 @@ use Rattle.hart_model.specs.Pmp.{bounds_of}
 use Rattle.hart_model.specs.Context.{bound_word}
 use Rattle.abstract_run.specs.AbstractCell.{AbstractCell, AnyTagged, PublicNumber, TaskReg, GivenCell}
 use Rattle.abstract_run.specs.Concretization.{Setting}
-use Rattle.core_laws.specs.KernelStates.{numbered, bound_cells}
+use Rattle.core_laws.proofs.KernelCells.{numbered, bound_cells}
 use Rattle.core_laws.proofs.ReadyPaths.{given_slot}
 use Rattle.core_laws.proofs.Numbered.{numbered-get, numbered-skip}
 use Rattle.core_laws.proofs.ReadyEnd.{bound-at}

@@ -4,6 +4,7 @@ pub mod AloneEnds
 pub mod AloneServices
 pub mod AloneOutputs
 pub mod OwnCells
+pub mod KernelCells
 pub mod Numbered
 -- Steps of a hart in user mode.
 pub mod UserStands

@@ -5,7 +5,7 @@ use Rattle.hart_model.specs.Cells.{blank}
 use Rattle.abstract_run.specs.AbstractCell.{AbstractCell}
 use Rattle.abstract_run.specs.Concretization.{Setting, Denotes, AllDenote}
 use Rattle.abstract_run.proofs.Denoted.{denote-next}
-use Rattle.core_laws.specs.KernelStates.{numbered}
+use Rattle.core_laws.proofs.KernelCells.{numbered}
 
 -- cells stand for numbered ones where each does
 pub denote-numbered : (s : Setting) (f : ℕ → AbstractCell) (i m : ℕ) (xs : List AbstractCell) (cs : List Cell) → i + m ≤ length cs

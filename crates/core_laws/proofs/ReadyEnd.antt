@@ -12,7 +12,7 @@ use Rattle.hart_model.specs.HartState.{HartState}
 use Rattle.core_model.specs.Invariant.{IsOwn, IsBodyCase, HasBounds}
 use Rattle.abstract_run.specs.AbstractCell.{AbstractCell, AnyTagged, PublicNumber, TaskReg, GivenCell}
 use Rattle.abstract_run.specs.Concretization.{Setting, Denotes}
-use Rattle.core_laws.specs.KernelStates.{bound_cells}
+use Rattle.core_laws.proofs.KernelCells.{bound_cells}
 use Rattle.core_laws.specs.Starts.{IsGivingReady}
 use Rattle.core_laws.proofs.ReadyPaths.{saved_slot}
 use Rattle.core_laws.proofs.Numbered.{numbered-get, numbered-skip}

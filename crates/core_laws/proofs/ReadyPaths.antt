@@ -11,7 +11,8 @@ use Rattle.abstract_run.specs.AbstractCell.{AbstractCell, PublicAny, PublicNumbe
 use Rattle.abstract_run.specs.Concretization.{Setting}
 use Rattle.abstract_run.specs.SymbolicPath.{Path, path_from, path_of, Question, IsTaken, HasRoom, GivesWord}
 use Rattle.abstract_run.proofs.ComputedPaths.{every_word, straight}
-use Rattle.core_laws.specs.KernelStates.{middle_instrs, numbered, bound_cells, saved_cells, at_start, give_ready_index}
+use Rattle.core_laws.specs.KernelStates.{middle_instrs, give_ready_index}
+use Rattle.core_laws.proofs.KernelCells.{numbered, bound_cells, saved_cells, at_start}
 use Rattle.core_laws.proofs.PathStates.{are_latches_public}
 
 -- from the start of the middle with a saved task, by these branches

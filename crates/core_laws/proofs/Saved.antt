@@ -21,7 +21,8 @@ use Rattle.abstract_run.proofs.Denoted.{denote-next, denote-end}
 use Rattle.abstract_run.proofs.Ways.{leads-map, leads-then}
 use Rattle.abstract_run.proofs.ComputedPaths.{every_word}
 use Rattle.abstract_run.proofs.PartRuns.{comes-map, comes-both, run-pc}
-use Rattle.core_laws.specs.KernelStates.{middle_instrs, middle_len, KernelParts, IsKernel, numbered, bound_cells, saved_cells, at_start, middle_at}
+use Rattle.core_laws.specs.KernelStates.{middle_instrs, middle_len, KernelParts, IsKernel, middle_at}
+use Rattle.core_laws.proofs.KernelCells.{numbered, bound_cells, saved_cells, at_start}
 use Rattle.core_laws.specs.Starts.{IsAtTrap}
 use Rattle.core_laws.proofs.Numbered.{denote-numbered}
 use Rattle.core_laws.proofs.TakenStands.{public-is, kernel-regs-stand}

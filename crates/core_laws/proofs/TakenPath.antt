@@ -27,7 +27,8 @@ use Rattle.abstract_run.proofs.Ways.{leads-map, leads-then}
 use Rattle.abstract_run.proofs.PathSays.{path-sound}
 use Rattle.abstract_run.proofs.ComputedPaths.{every_word, straight}
 use Rattle.abstract_run.proofs.PartRuns.{comes-map, comes-both, run-pc}
-use Rattle.core_laws.specs.KernelStates.{KernelParts, IsKernel, middle_at, restore_at, mret_at, middle_instrs, middle_len, take_index, numbered, bound_cells}
+use Rattle.core_laws.specs.KernelStates.{KernelParts, IsKernel, middle_at, restore_at, mret_at, middle_instrs, middle_len, take_index}
+use Rattle.core_laws.proofs.KernelCells.{numbered, bound_cells}
 use Rattle.core_laws.proofs.PartLeads.{part-leads}
 use Rattle.core_laws.proofs.PathStates.{latch-public, are-public}
 use Rattle.core_laws.proofs.Trapped.{AreOwn, registers_of}

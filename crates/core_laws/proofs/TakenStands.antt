@@ -21,7 +21,8 @@ use Rattle.abstract_run.specs.Concretization.{Setting, IsSound, AllDenote, RegsD
 use Rattle.abstract_run.specs.SymbolicPath.{PathState, IsAsPathSays}
 use Rattle.abstract_run.proofs.OneWrite.{own-truthful}
 use Rattle.abstract_run.proofs.Denoted.{denote-next, denote-end, denote-repeated, denote-registers}
-use Rattle.core_laws.specs.KernelStates.{KernelParts, middle_at, take_index, numbered, kernel_regs, bound_cells, saved_cells}
+use Rattle.core_laws.specs.KernelStates.{KernelParts, middle_at, take_index}
+use Rattle.core_laws.proofs.KernelCells.{numbered, kernel_regs, bound_cells, saved_cells}
 use Rattle.core_model.specs.Routines.{IsReadyContext, IsLatchPlace}
 use Rattle.core_laws.specs.Starts.{HasPublicLatches}
 use Rattle.core_laws.proofs.Numbered.{denote-numbered}

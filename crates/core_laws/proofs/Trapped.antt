@@ -16,7 +16,7 @@ use Rattle.abstract_run.specs.AbstractCell.{AbstractCell, PublicNumber, TaskReg,
 use Rattle.abstract_run.specs.Concretization.{Setting, IsSound, AllDenote, RegsDenote, IsDenotedBy}
 use Rattle.abstract_run.specs.SymbolicPath.{IsAsPathSays}
 use Rattle.abstract_run.proofs.Denoted.{denote-next, denote-end, denote-registers}
-use Rattle.core_laws.specs.KernelStates.{numbered, bound_cells, trapped_cells, at_start}
+use Rattle.core_laws.proofs.KernelCells.{numbered, bound_cells, trapped_cells, at_start}
 use Rattle.core_laws.specs.Starts.{IsAtTrap}
 use Rattle.core_laws.proofs.OwnCells.{own-value}
 use Rattle.core_laws.proofs.Numbered.{denote-numbered}

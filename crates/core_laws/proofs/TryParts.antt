@@ -1,6 +1,6 @@
 -- Where a save part and a restore part begin is somewhere that harts come: a hart that has just trapped, and one that is to restore, of the
 -- core of `TryCores`.
-use Rattle.std.proofs.Common.{◌≡◌, refl, sym, ap, subst, ◌∙◌, ℕ, zero, suc, ◌<◌, ◌≤◌, Bool, true, false, ◌&&◌, List, [], ◌∷◌, All, replicate, get_or, slice_get, Option, Some, None, lit<, lit≤}
+use Rattle.std.proofs.Common.{◌≡◌, refl, sym, ap, subst, ◌∙◌, ℕ, zero, suc, ◌<◌, ◌≤◌, Bool, true, List, [], ◌∷◌, All, replicate, get_or, slice_get, Option, Some, None, lit<, lit≤}
 use Rattle.std.specs.List.{list_all}
 use Rattle.std.proofs.lemmas.Bool.{and_parts}
 use Rattle.std.proofs.lemmas.List.Elements.{All-head}
@@ -24,7 +24,7 @@ use Rattle.hart_model.specs.MachineStep.{machine_step}
 use Rattle.core_model.specs.declared.event.Event.{Event}
 use Rattle.core_model.specs.declared.event.Event.TheVariants.{Go}
 use Rattle.core_model.specs.Core.{CoreState, core_after, core_from}
-use Rattle.core_model.specs.Invariant.{IsHartSound, IsUserCase, IsReadyCase}
+use Rattle.core_model.specs.Invariant.{IsUserCase, IsReadyCase}
 use Rattle.core_model.specs.Routines.{IsLatchPlace, IsReadyContext, IsUserState, IsTrapped, IsRestoring}
 use Rattle.abstract_run.proofs.Ways.{sound-tick, user-tick}
 use Rattle.core_laws.specs.KernelStates.{emitted_parts, restore_at}

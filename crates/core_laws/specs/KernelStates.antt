@@ -1,18 +1,12 @@
--- The parts of a kernel's code, and what is known of a hart at their ends (this project's own).
-use Rattle.std.specs.Prelude.{◌≡◌, ℕ, zero, suc, ◌+◌, ◌*◌, ◌≤◌, ℤ, pos, ◌-ℤ◌, List, [], ◌∷◌, ◌++◌, length, get_or, replicate, if◌then◌else◌}
+-- The parts of a kernel's code, where they stand, and what they have to do (this project's own).
+use Rattle.std.specs.Prelude.{◌≡◌, ℕ, ◌+◌, ◌*◌, ◌≤◌, ℤ, pos, ◌-ℤ◌, List, [], ◌∷◌, length, if◌then◌else◌}
 use Rattle.isa_model.specs.declared.instr.Instr.{Instr}
 use Rattle.isa_model.specs.declared.instr.Instr.TheVariants.{Jal, Branch, Fence, Mret}
-use Rattle.isa_model.specs.declared.task.Task.{Task}
-use Rattle.hart_model.specs.Pmp.{bounds_of}
-use Rattle.hart_model.specs.Csrs.{CsrFile}
-use Rattle.hart_model.specs.Context.{ContextState}
 use Rattle.hart_model.specs.MachineStep.{kernel_address}
 use Rattle.core_model.specs.KernelText.{Label, Idle, Line, At, Does, Branches, Jumps, Word, save_lines, middle_lines, restore_lines}
 use Rattle.core_model.specs.KernelWords.{KernelCodeState, same_label, distance, kernel_code, linked_code, save_words, restore_words}
 use Rattle.core_model.specs.Routines.{SavesValues, SavesExplained, SavesAlike, RestoresValues, RestoresExplained, RestoresAlike, part_limit}
-use Rattle.abstract_run.specs.AbstractCell.{AbstractCell, Zero, SlotAddress, PublicAny, PublicNumber, TaskReg, OldSlotWord, GivenCell, AnyTagged, AbstractState}
-use Rattle.abstract_run.specs.Concretization.{Setting}
-use Rattle.abstract_run.specs.SymbolicPath.{PathState, StandAt, HasInstrAt}
+use Rattle.abstract_run.specs.SymbolicPath.{StandAt, HasInstrAt}
 
 -- the distance to a label of a text, or to the idle loop, which stands so many words after the text's start
 abbrev pub distance_to : List Line → ℕ → ℕ → Label → ℤ
@@ -86,58 +80,6 @@ mret_at k = restore_at k + 4 * k.restore
 
 abbrev pub idle_at : KernelParts → ℕ
 idle_at k = mret_at k + 4
-
--- some abstract cells by their numbers, so many from one on
-abbrev pub numbered : (ℕ → AbstractCell) → ℕ → ℕ → List AbstractCell
-numbered cell first zero = []
-numbered cell first (suc more) = cell first ∷ numbered cell (first + 1) more
-
-abbrev pub bound_cells : Task → List AbstractCell
-bound_cells T =
-    PublicNumber (get_or (bounds_of T) 0 0) ∷ PublicNumber (get_or (bounds_of T) 1 0)
-    ∷ PublicNumber (get_or (bounds_of T) 2 0) ∷ PublicNumber (get_or (bounds_of T) 3 0) ∷ []
-
--- registers that are public, x5 being the slot's address
-abbrev pub kernel_regs : List AbstractCell
-kernel_regs = replicate 5 PublicAny ++ SlotAddress ∷ replicate 26 PublicAny
-
--- Of a trapped task: the registers are its own, the other latches have anything of it or of before, and so have the slot's words. The
--- word of the pc is a given cell, which stays.
-abbrev pub trapped_cells : Setting → AbstractState
-trapped_cells s = record {
-  regs = AnyTagged ∷ numbered TaskReg 1 31;
-  port_a = AnyTagged;
-  port_b = AnyTagged;
-  res = AnyTagged;
-  load = AnyTagged;
-  store = AnyTagged;
-  scr = SlotAddress;
-  zero = Zero;
-  slot = GivenCell ∷ numbered OldSlotWord 1 31 ++ bound_cells s.task;
-  data_words = [];
-}
-
--- Of a saved task: its registers stand in the slot, and nothing of it is in a latch. The word of the pc is as given.
-abbrev pub saved_cells : Setting → AbstractCell → AbstractState
-saved_cells s pc = record {
-  regs = kernel_regs;
-  port_a = PublicAny;
-  port_b = PublicAny;
-  res = PublicAny;
-  load = PublicAny;
-  store = PublicAny;
-  scr = SlotAddress;
-  zero = Zero;
-  slot = pc ∷ numbered TaskReg 1 31 ++ bound_cells s.task;
-  data_words = [];
-}
-
--- Of a restored task: its registers are in the latches of their names, and stand in the slot as before.
-abbrev pub restored_cells : Setting → AbstractCell → AbstractState
-restored_cells s pc = record (saved_cells s pc) { regs = PublicAny ∷ numbered TaskReg 1 31 }
-
-abbrev pub at_start : AbstractState → CsrFile → ContextState → PathState
-at_start cells csrs held = record { cells = cells; index = 0; csrs = csrs; held = held }
 
 -- Where the words of a code stand that its parts don't choose.
 pub record IsLinked (k : KernelParts) : Type 0 where
