@@ -9,10 +9,6 @@ pub alone-next : (T : Task) (n : ℕ) → (alone_at T n).end ≡ None → alone_
 unfolding alone_at
 alone-next T n running = ap (λ k. alone_at T k) (add-one n) ∙ ap (λ e. unless_ended T (n + 1) e (alone_at T n)) running
 
-pub alone-start : (T : Task) → (alone_at T 0).end ≡ None
-unfolding alone_at
-alone-start T = refl
-
 stays : (T : Task) (n : ℕ) (e : Option End) (s : AloneState) → IsSome e → unless_ended T n e s ≡ s
 stays T n None s h = cc
 stays T n (Some e) s h = refl

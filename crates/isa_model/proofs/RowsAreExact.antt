@@ -49,8 +49,21 @@ alu_imm_at (suc (suc (suc (suc (suc (suc (suc (suc n)))))))) word instr funct3 b
 pub alu_imm_is_exact : IsExactly 0x13 alu_imm_rows
 alu_imm_is_exact word instr bound opcode = alu_imm_at (bits 12 3 word) word instr refl bound opcode
 
+-- at each funct3
+alu_reg_at : (n word : ℕ) (instr : Instr) → n ≡ bits 12 3 word → word < 2 ^ 32 → bits 0 7 word ≡ 0x33 →
+    (instr_in alu_reg_rows word ≡ Some instr) ↔ Spells word instr
+alu_reg_at zero word instr funct3 bound opcode = grind arith
+alu_reg_at (suc zero) word instr funct3 bound opcode = grind arith
+alu_reg_at (suc (suc zero)) word instr funct3 bound opcode = grind arith
+alu_reg_at (suc (suc (suc zero))) word instr funct3 bound opcode = grind arith
+alu_reg_at (suc (suc (suc (suc zero)))) word instr funct3 bound opcode = grind arith
+alu_reg_at (suc (suc (suc (suc (suc zero))))) word instr funct3 bound opcode = grind arith
+alu_reg_at (suc (suc (suc (suc (suc (suc zero)))))) word instr funct3 bound opcode = grind arith
+alu_reg_at (suc (suc (suc (suc (suc (suc (suc zero))))))) word instr funct3 bound opcode = grind arith
+alu_reg_at (suc (suc (suc (suc (suc (suc (suc (suc n)))))))) word instr funct3 bound opcode = absurd (omega arith)
+
 pub alu_reg_is_exact : IsExactly 0x33 alu_reg_rows
-alu_reg_is_exact word instr bound opcode = grind (arith, common_steps)
+alu_reg_is_exact word instr bound opcode = alu_reg_at (bits 12 3 word) word instr refl bound opcode
 
 pub fence_is_exact : IsExactly 0x0f fence_rows
 fence_is_exact word instr bound opcode = grind arith

@@ -1,9 +1,9 @@
 -- What every instruction of the run alone keeps, and what its control tells.
-use Rattle.std.proofs.Common.{◌≡◌, ℕ, zero, suc, ◌+◌, ◌*◌, ◌/◌, ◌%◌, ◌^◌, Bool, true, false, ◌==◌, if◌then◌else◌, List, [], ◌∷◌, ◌++◌, length, length-append, Option, Some, None, is_none, option_map, slice_get, nat_lt, refl, ap, sym, ◌∙◌, arith, add-one}
+use Rattle.std.proofs.Common.{◌≡◌, ◌≢◌, ℕ, zero, suc, ◌+◌, ◌*◌, ◌/◌, ◌%◌, ◌^◌, Bool, true, false, ◌==◌, if◌then◌else◌, List, [], ◌∷◌, ◌++◌, length, length-append, Option, Some, None, is_none, option_map, slice_get, nat_lt, refl, ap, sym, ◌∙◌, arith, add-one}
 use Rattle.isa_model.specs.declared.instr.Instr.{Instr}
 use Rattle.isa_model.specs.declared.instr.Instr.TheVariants.{Lui, Auipc, Jal, Jalr, Branch, Load, Store, AluImm, AluReg, Fence, Ecall, Ebreak, Mret, Csr, CsrImm}
 use Rattle.isa_model.specs.declared.latch.Latch.{Latch}
-use Rattle.isa_model.specs.declared.latch.Latch.TheVariants.{Reg, Res}
+use Rattle.isa_model.specs.declared.latch.Latch.TheVariants.{Reg, Res, Mul}
 use Rattle.isa_model.specs.declared.ends.End.{End}
 use Rattle.isa_model.specs.declared.ends.End.TheVariants.{Exited, BadCall, TapeEnd, OutFull, OutOfSteps}
 use Rattle.isa_model.specs.declared.ends.EndKind.{EndKind}
@@ -18,7 +18,7 @@ use Rattle.isa_model.specs.declared.instr.LoadKind.{LoadKind}
 use Rattle.isa_model.specs.declared.instr.StoreKind.{StoreKind}
 use Rattle.std.proofs.lemmas.Bool.{cond_both, eqb-true}
 use Rattle.isa_model.specs.InstrTable.{instr_of}
-use Rattle.isa_model.specs.Effect.{Flow, Constant, Mixed, Rs1, Rs2, to, to_reg, result, port_a, loaded_flow, Next, Goes, Raises, Calls, Returns, GoesAligned, Effect, Write, Operands, effect_of, jump, does, ports, load_word, store_word, address}
+use Rattle.isa_model.specs.Effect.{Flow, Constant, Mixed, Rs1, Rs2, to, to_reg, result, port_a, is_of_multiplier, loaded_flow, Next, Goes, Raises, Calls, Returns, GoesAligned, Effect, Write, Operands, effect_of, jump, does, ports, load_word, store_word, address}
 use Rattle.isa_model.specs.Alone.{AloneState, Executed, alone_at, start_of, after_instr, after_fetch, after_decode, after_effect, after_writes, after_call, after_in, after_out, after_end, after_service, after_fault, with_value, values_after, code_word_at, is_privileged, deed_of, rs1_of, if_fuel_used, unless_ended, operands_of}
 use Rattle.isa_model.specs.Control.{control_to, control_of, kind_of, end_kind_of}
 
@@ -43,7 +43,7 @@ module _ (T : Task) (P : AloneState → Type 0) where
 abbrev IsAligned : AloneState → Type 0
 IsAligned s = s.pc % 4 ≡ 0
 
-four_more : (pc : ℕ) → pc % 4 ≡ 0 → low_word (pc + 4) % 4 ≡ 0
+pub four_more : (pc : ℕ) → pc % 4 ≡ 0 → low_word (pc + 4) % 4 ≡ 0
 four_more pc h = omega arith
 
 jump_aligned : (before after : List Write) (target : ℕ) → GoesAligned (jump before after target).next
@@ -85,22 +85,24 @@ module _ (Q : Executed → Type 0) where
   either true x y h k = h
   either false x y h k = k
 
-  in_cases : (tape : Option ℕ) (s : AloneState) → ((end : End) → Q (after_end end (kind_of end) s))
+  in_cases : (tape : Option ℕ) (s : AloneState) → ((end : End) → end ≢ OutOfSteps → Q (after_end end (kind_of end) s))
       → ((word : ℕ) → Q (after_service 2 (record s { value = with_value (Reg 10) word s.value; tape_at = s.tape_at + 1 }))) → Q (after_in tape s)
-  in_cases None s ends ins = ends TapeEnd
+  in_cases None s ends ins = ends TapeEnd (λ e. absurd cc)
   in_cases (Some word) s ends ins = ins word
 
-  call_cases : (T : Task) (a7 a0 : ℕ) (s : AloneState)
-      → ((end : End) → Q (after_end end (kind_of end) s))
+  -- a service; none ends a task as out of steps
+  pub call_cases : (T : Task) (a7 a0 : ℕ) (s : AloneState)
+      → ((end : End) → end ≢ OutOfSteps → Q (after_end end (kind_of end) s))
       → Q (after_service 1 (record s { output = s.output ++ a0 ∷ [] }))
       → ((word : ℕ) → Q (after_service 2 (record s { value = with_value (Reg 10) word s.value; tape_at = s.tape_at + 1 })))
       → Q (after_service 3 s) → Q (after_call T a7 a0 s)
   call_cases T a7 a0 s ends outs ins yields =
-      either (a7 == 0) (after_end (Exited a0) kinds.Exited s) _ (ends (Exited a0))
+      either (a7 == 0) (after_end (Exited a0) kinds.Exited s) _ (ends (Exited a0) (λ e. absurd cc))
       (either (a7 == 1) (after_out T a0 s) _
-      (either (nat_lt (length s.output) T.out_max) (after_service 1 (record s { output = s.output ++ a0 ∷ [] })) (after_end OutFull kinds.OutFull s) outs (ends OutFull))
+      (either (nat_lt (length s.output) T.out_max) (after_service 1 (record s { output = s.output ++ a0 ∷ [] })) (after_end OutFull kinds.OutFull s)
+      outs (ends OutFull (λ e. absurd cc)))
       (either (a7 == 2) (after_in (slice_get T.tape s.tape_at) s) _ (in_cases (slice_get T.tape s.tape_at) s ends ins)
-      (either (a7 == 3) (after_service 3 s) (after_end (BadCall a7) (kinds.BadCall a7) s) yields (ends (BadCall a7)))))
+      (either (a7 == 3) (after_service 3 s) (after_end (BadCall a7) (kinds.BadCall a7) s) yields (ends (BadCall a7) (λ e. absurd cc)))))
 
   writes_cases : (T : Task) (deed : Deed) (next : Next) (s : AloneState)
       → ((pc : ℕ) → next ≡ Goes pc → Q (record { state = record s { pc = pc }; deed = deed }))
@@ -144,7 +146,7 @@ step_aligned T s h =
     writes_cases (λ (d : Executed). IsAligned d.state) T (deed_of i (s.value (Reg (rs1_of i)))) e.next after
     (λ pc is. aligned_goes e.next pc (next_aligned i s.pc (operands_of T s.value i) h) is) (λ cause. h)
     (call_cases (λ (d : Executed). IsAligned d.state) T (after.value (Reg 17)) (after.value (Reg 10)) after
-    (λ end. h) (four_more s.pc h) (λ word. four_more s.pc h) (four_more s.pc h)))
+    (λ end not. h) (four_more s.pc h) (λ word. four_more s.pc h) (four_more s.pc h)))
 
 pub always_aligned : (T : Task) (n : ℕ) → T.code_at % 4 ≡ 0 → IsAligned (alone_at T n)
 always_aligned T n h = always T IsAligned h (step_aligned T) (λ s k. k) n
@@ -190,7 +192,11 @@ row_keeps (Store kind rs2 rs1 imm) pc o f v =
     one_of (address o.rs1 imm % store_size kind == 0) (store_word kind o.rs2 pc (address o.rs1 imm) (ports o ++ to Res (address o.rs1 imm) (Mixed (Rs1 ∷ []))) o.word)
     (does (ports o ++ to Res (address o.rs1 imm) (Mixed (Rs1 ∷ []))) (Raises 6)) (store_keeps kind o.rs2 pc (address o.rs1 imm) o o.word) (λ v. refl) v
 row_keeps (AluImm op rd rs1 imm) pc o f v = reg_keeps rd (alu_of op o.rs1 (two_complement 32 imm)) (Mixed (Rs1 ∷ [])) _
-row_keeps (AluReg op rd rs1 rs2) pc o f v = reg_keeps rd (alu_of op o.rs1 o.rs2) (Mixed (Rs1 ∷ Rs2 ∷ [])) _
+row_keeps (AluReg op rd rs1 rs2) pc o f v =
+    let value = alu_of op o.rs1 o.rs2 in
+    let flow = Mixed (Rs1 ∷ Rs2 ∷ []) in
+    cond_both (is_of_multiplier op) (to Mul value flow) []
+    (λ (ws : List Write). values_after (ports o ++ ws ++ result rd value flow) v (Reg 0) ≡ v (Reg 0)) (λ t. reg_keeps rd value flow _) (λ n. reg_keeps rd value flow _)
 row_keeps (Fence word) pc o f v = refl
 row_keeps Ecall pc o f v = refl
 row_keeps Ebreak pc o f v = refl
@@ -210,7 +216,7 @@ step_zero T s h =
     writes_cases (λ (d : Executed). HasZero d.state) T (deed_of i (s.value (Reg (rs1_of i)))) e.next after
     (λ pc is. kept) (λ cause. kept)
     (call_cases (λ (d : Executed). HasZero d.state) T (after.value (Reg 17)) (after.value (Reg 10)) after
-    (λ end. kept) kept (λ word. kept) kept))
+    (λ end not. kept) kept (λ word. kept) kept))
 
 pub always_zero : (T : Task) (n : ℕ) → HasZero (alone_at T n)
 always_zero T n = always T HasZero refl (step_zero T) (λ s k. k) n
@@ -247,7 +253,7 @@ step_tells T s h =
     let after : AloneState = record s { value = values_after e.writes s.value } in
     writes_cases Q T (deed_of i (s.value (Reg (rs1_of i)))) e.next after
     (λ pc is. deed_tells i (s.value (Reg (rs1_of i))) s.end h) (λ cause. refl)
-    (call_cases Q T (after.value (Reg 17)) (after.value (Reg 10)) after (λ end. refl) h (λ word. h) h))
+    (call_cases Q T (after.value (Reg 17)) (after.value (Reg 10)) after (λ end not. refl) h (λ word. h) h))
 
 -- The kind of end by the fuel and the control alone: that of the last deed, else of used fuel where the list is as long as the fuel.
 abbrev last_deed : List Control → Option Deed
@@ -271,7 +277,7 @@ last_deed-snoc (d ∷ []) c = refl
 last_deed-snoc (d ∷ e ∷ cs) c = last_deed-snoc (e ∷ cs) c
 
 -- after n instructions: the kind of end is told by the control so far, which while the task runs has n items
-record Told (T : Task) (n : ℕ) (cs : List Control) (end : Option End) : Type 0 where
+record History (T : Task) (n : ℕ) (cs : List Control) (end : Option End) : Type 0 where
   kind : option_map kind_of end ≡ kind_by T.fuel cs
   items : end ≡ None → length cs ≡ n
 
@@ -290,8 +296,8 @@ checked_kind T n Ran None s is h = used (n == T.fuel) s is
 checked_kind T n (Stored at) None s is h = used (n == T.fuel) s is
 checked_kind T n (Called number) None s is h = used (n == T.fuel) s is
 
-told_more : (T : Task) (n : ℕ) (cs : List Control) (e : Option End) (s : AloneState) → s.end ≡ e → Told T n cs e
-    → Told T (n + 1) (if is_none e then cs ++ (record { pc = s.pc; deed = (after_instr T s).deed }) ∷ [] else cs) (unless_ended T (n + 1) e s).end
+told_more : (T : Task) (n : ℕ) (cs : List Control) (e : Option End) (s : AloneState) → s.end ≡ e → History T n cs e
+    → History T (n + 1) (if is_none e then cs ++ (record { pc = s.pc; deed = (after_instr T s).deed }) ∷ [] else cs) (unless_ended T (n + 1) e s).end
 told_more T n cs (Some e) s is h = record { kind = ap (option_map kind_of) is ∙ h.kind; items = λ none. absurd cc }
 told_more T n cs None s is h =
     let c : Control = record { pc = s.pc; deed = (after_instr T s).deed } in
@@ -303,7 +309,7 @@ told_more T n cs None s is h =
       items = λ none. len;
     }
 
-told : (T : Task) (n : ℕ) → Told T n (control_to T n) (alone_at T n).end
+told : (T : Task) (n : ℕ) → History T n (control_to T n) (alone_at T n).end
 unfolding alone_at control_to
 told T zero = record { kind = refl; items = λ none. refl }
 told T (suc n) = let more = told_more T n (control_to T n) (alone_at T n).end (alone_at T n) refl (told T n) in record { kind = more.kind; items = λ none. more.items none ∙ add-one n }

@@ -1,6 +1,6 @@
 -- The arithmetic on numbers whose results are known.
 use Rattle.std.proofs.Common.{◌≡◌, refl, true, false}
-use Rattle.isa_model.specs.declared.instr.Alu.TheVariants.{Sub, Sll, Slt, Sltu, Srl, Sra}
+use Rattle.isa_model.specs.declared.instr.Alu.TheVariants.{Sub, Sll, Slt, Sltu, Srl, Sra, Mul, Mulh, Mulhsu, Mulhu, Div, Divu, Rem, Remu}
 use Rattle.isa_model.specs.declared.instr.Cmp.TheVariants.{Blt, Bge, Bltu, Bgeu}
 use Rattle.isa_model.specs.declared.instr.LoadKind.TheVariants as loads
 use Rattle.isa_model.specs.declared.instr.StoreKind.TheVariants as stores
@@ -27,6 +27,57 @@ least_below_greatest = refl
 
 unsigned_above : alu_of Sltu 0x80000000 0x7fffffff ≡ 0
 unsigned_above = refl
+
+low_product : alu_of Mul 0xffffffff 7 ≡ 0xfffffff9
+low_product = refl
+
+least_squared : alu_of Mulh 0x80000000 0x80000000 ≡ 0x40000000
+least_squared = refl
+
+high_of_minus_seven : alu_of Mulh 0xffffffff 7 ≡ 0xffffffff
+high_of_minus_seven = refl
+
+first_alone_signed : alu_of Mulhsu 0xffffffff 0xffffffff ≡ 0xffffffff
+first_alone_signed = refl
+
+both_unsigned : alu_of Mulhu 0xffffffff 0xffffffff ≡ 0xfffffffe
+both_unsigned = refl
+
+minus_seven_over_two : alu_of Div 0xfffffff9 2 ≡ 0xfffffffd
+minus_seven_over_two = refl
+
+minus_seven_over_minus_two : alu_of Div 0xfffffff9 0xfffffffe ≡ 3
+minus_seven_over_minus_two = refl
+
+its_remainder : alu_of Rem 0xfffffff9 2 ≡ 0xffffffff
+its_remainder = refl
+
+remainder_of_seven : alu_of Rem 7 0xfffffffe ≡ 1
+remainder_of_seven = refl
+
+unsigned_quotient : alu_of Divu 0xfffffff9 2 ≡ 0x7ffffffc
+unsigned_quotient = refl
+
+unsigned_remainder : alu_of Remu 0xfffffff9 2 ≡ 1
+unsigned_remainder = refl
+
+by_zero : alu_of Div 7 0 ≡ 0xffffffff
+by_zero = refl
+
+unsigned_by_zero : alu_of Divu 7 0 ≡ 0xffffffff
+unsigned_by_zero = refl
+
+remainder_by_zero : alu_of Rem 0xfffffff9 0 ≡ 0xfffffff9
+remainder_by_zero = refl
+
+unsigned_remainder_by_zero : alu_of Remu 0xfffffff9 0 ≡ 0xfffffff9
+unsigned_remainder_by_zero = refl
+
+least_over_minus_one : alu_of Div 0x80000000 0xffffffff ≡ 0x80000000
+least_over_minus_one = refl
+
+no_remainder : alu_of Rem 0x80000000 0xffffffff ≡ 0
+no_remainder = refl
 
 minus_one_below_zero : is_taken Blt 0xffffffff 0 ≡ true
 minus_one_below_zero = refl

@@ -3,7 +3,7 @@ use Rattle.std.proofs.Common.{◌≡◌, refl, [], ◌∷◌, Some, None, pos, n
 use Rattle.isa_model.specs.declared.instr.Instr.TheVariants.{Jal, Jalr, Branch, Load, Store, AluImm, AluReg, Csr, CsrImm}
 use Rattle.isa_model.specs.declared.instr.LoadKind.TheVariants as loads
 use Rattle.isa_model.specs.declared.instr.StoreKind.TheVariants as stores
-use Rattle.isa_model.specs.declared.instr.Alu.TheVariants.{Add, And}
+use Rattle.isa_model.specs.declared.instr.Alu.TheVariants.{Add, And, Mul}
 use Rattle.isa_model.specs.declared.instr.Cmp.TheVariants.{Beq, Bne}
 use Rattle.isa_model.specs.declared.instr.CsrOp.TheVariants.{Rw, Rs, Rc}
 use Rattle.isa_model.specs.declared.latch.Latch.TheVariants as latches
@@ -21,6 +21,14 @@ and_of_two : (effect_of (AluReg And 3 1 2) 0x100000 o).writes ≡
     ∷ record { to = latches.Res; value = 0; flow = Mixed (Rs1 ∷ Rs2 ∷ []) }
     ∷ record { to = latches.Reg 3; value = 0; flow = Mixed (Rs1 ∷ Rs2 ∷ []) } ∷ []
 and_of_two = refl
+
+product_of_two : (effect_of (AluReg Mul 3 1 2) 0x100000 o).writes ≡
+    record { to = latches.PortA; value = 0x108000; flow = Moved Rs1 }
+    ∷ record { to = latches.PortB; value = 0x1ff; flow = Moved Rs2 }
+    ∷ record { to = latches.Mul; value = 0x20ef8000; flow = Mixed (Rs1 ∷ Rs2 ∷ []) }
+    ∷ record { to = latches.Res; value = 0x20ef8000; flow = Mixed (Rs1 ∷ Rs2 ∷ []) }
+    ∷ record { to = latches.Reg 3; value = 0x20ef8000; flow = Mixed (Rs1 ∷ Rs2 ∷ []) } ∷ []
+product_of_two = refl
 
 sum_wraps : (effect_of (AluImm Add 0 1 (negsuc 0x108001)) 0xfffffffc o) ≡ record {
   writes = record { to = latches.PortA; value = 0x108000; flow = Moved Rs1 }

@@ -3,7 +3,7 @@ use Rattle.std.proofs.Common.{◌≡◌, None, Some, refl, pos, negsuc}
 use Rattle.isa_model.specs.declared.instr.Cmp.TheVariants.{Beq, Bgeu}
 use Rattle.isa_model.specs.declared.instr.LoadKind.TheVariants as loads
 use Rattle.isa_model.specs.declared.instr.StoreKind.TheVariants as stores
-use Rattle.isa_model.specs.declared.instr.Alu.TheVariants.{Add, Sub, Sra}
+use Rattle.isa_model.specs.declared.instr.Alu.TheVariants.{Add, Sub, Sra, Mul, Mulhsu, Div, Remu}
 use Rattle.isa_model.specs.declared.instr.CsrOp.TheVariants.{Rs, Rc}
 use Rattle.isa_model.specs.declared.instr.Instr.TheVariants.{Lui, Auipc, Jal, Jalr, Branch, Load, Store, AluImm, AluReg, Fence, Ecall, Ebreak, Mret, Csr, CsrImm}
 use Rattle.isa_model.specs.Encoding.{word_of}
@@ -43,6 +43,34 @@ sub = refl
 
 sub_word : word_of (AluReg Sub 3 1 2) ≡ 0x402081b3
 sub_word = refl
+
+-- mul x0, x0, x0
+mul : instr_of 0x02000033 ≡ Some (AluReg Mul 0 0 0)
+mul = refl
+
+mul_word : word_of (AluReg Mul 0 0 0) ≡ 0x02000033
+mul_word = refl
+
+-- mulhsu x5, x6, x7
+mulhsu : instr_of 0x027322b3 ≡ Some (AluReg Mulhsu 5 6 7)
+mulhsu = refl
+
+mulhsu_word : word_of (AluReg Mulhsu 5 6 7) ≡ 0x027322b3
+mulhsu_word = refl
+
+-- div x10, x10, x11
+div : instr_of 0x02b54533 ≡ Some (AluReg Div 10 10 11)
+div = refl
+
+div_word : word_of (AluReg Div 10 10 11) ≡ 0x02b54533
+div_word = refl
+
+-- remu x31, x30, x29
+remu : instr_of 0x03df7fb3 ≡ Some (AluReg Remu 31 30 29)
+remu = refl
+
+remu_word : word_of (AluReg Remu 31 30 29) ≡ 0x03df7fb3
+remu_word = refl
 
 -- lui x1, 264
 lui : instr_of 0x001080b7 ≡ Some (Lui 1 264)
@@ -172,9 +200,9 @@ zeros = refl
 ones : instr_of 0xffffffff ≡ None
 ones = refl
 
--- mul x0, x0, x0, of RV32M
-mul : instr_of 0x02000033 ≡ None
-mul = refl
+-- funct7 2 of OP
+operation_2 : instr_of 0x04000033 ≡ None
+operation_2 = refl
 
 -- slli x1, x1, 32, which RV32I has not
 slli_32 : instr_of 0x02009093 ≡ None

@@ -1,9 +1,9 @@
 -- The arithmetic of the instructions, by numbers (unprivileged manual, RV32I, "Integer Computational Instructions", "Control
--- Transfer Instructions", "Load and Store Instructions"; "Zicsr").
-use Rattle.std.specs.Prelude.{ℕ, ◌+◌, ◌-◌, ◌*◌, ◌/◌, ◌%◌, ◌^◌, Bool, ◌&&◌, not, nat_lt, nat_le, int_lt, int_le, ◌==◌, bit_and, bit_or, bit_xor, if◌then◌else◌, ℤ, pos, negsuc}
+-- Transfer Instructions", "Load and Store Instructions"; M, "Multiplication Operations", "Division Operations"; "Zicsr").
+use Rattle.std.specs.Prelude.{ℕ, ◌+◌, ◌-◌, ◌*◌, ◌/◌, ◌%◌, ◌^◌, Bool, ◌&&◌, not, nat_lt, nat_le, int_lt, int_le, ◌==◌, bit_and, bit_or, bit_xor, if◌then◌else◌, ℤ, pos, negsuc, ◌*ℤ◌, int_div, int_rem}
 use Rattle.isa_model.specs.Bits.{bits, low_word, two_complement, sign_extend}
 use Rattle.isa_model.specs.declared.instr.Alu.{Alu}
-use Rattle.isa_model.specs.declared.instr.Alu.TheVariants.{Add, Sub, Sll, Slt, Sltu, Xor, Srl, Sra, Or, And}
+use Rattle.isa_model.specs.declared.instr.Alu.TheVariants.{Add, Sub, Sll, Slt, Sltu, Xor, Srl, Sra, Or, And, Mul, Mulh, Mulhsu, Mulhu, Div, Divu, Rem, Remu}
 use Rattle.isa_model.specs.declared.instr.Cmp.{Cmp}
 use Rattle.isa_model.specs.declared.instr.Cmp.TheVariants.{Beq, Bne, Blt, Bge, Bltu, Bgeu}
 use Rattle.isa_model.specs.declared.instr.LoadKind.{LoadKind}
@@ -25,7 +25,13 @@ abbrev pub floor_quotient : ℤ → ℕ → ℤ
 floor_quotient (pos n) divisor = pos (n / divisor)
 floor_quotient (negsuc n) divisor = negsuc (n / divisor)
 
--- Sums and differences are modulo 2 ^ 32. A shift uses the low five bits of its amount.
+-- the high word of a product of two numbers of 32 bits, which fits 64 bits
+abbrev pub high_word : ℤ → ℕ
+high_word product = two_complement 32 (floor_quotient product (2 ^ 32))
+
+-- Sums, differences and the low word of a product are modulo 2 ^ 32. A shift uses the low five bits of its amount. `int_div` rounds
+-- towards zero, so `int_rem` has the sign of the dividend; a division by 0 gives all ones, with the dividend as its remainder. The
+-- one quotient that isn't a signed word, -2 ^ 31 by -1, gives 2 ^ 31, which is the word of -2 ^ 31.
 abbrev pub alu_of : Alu → ℕ → ℕ → ℕ
 alu_of Add a b = low_word (a + b)
 alu_of Sub a b = low_word (a + 2 ^ 32 - b)
@@ -37,6 +43,14 @@ alu_of Srl a b = a / 2 ^ (b % 32)
 alu_of Sra a b = two_complement 32 (floor_quotient (signed a) (2 ^ (b % 32)))
 alu_of Or a b = bit_or a b
 alu_of And a b = bit_and a b
+alu_of Mul a b = low_word (a * b)
+alu_of Mulh a b = high_word (signed a *ℤ signed b)
+alu_of Mulhsu a b = high_word (signed a *ℤ pos b)
+alu_of Mulhu a b = high_word (pos a *ℤ pos b)
+alu_of Div a b = if b == 0 then 2 ^ 32 - 1 else two_complement 32 (int_div (signed a) (signed b))
+alu_of Divu a b = if b == 0 then 2 ^ 32 - 1 else a / b
+alu_of Rem a b = if b == 0 then a else two_complement 32 (int_rem (signed a) (signed b))
+alu_of Remu a b = if b == 0 then a else a % b
 
 abbrev pub is_taken : Cmp → ℕ → ℕ → Bool
 is_taken Beq a b = a == b

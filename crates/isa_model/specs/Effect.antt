@@ -1,10 +1,12 @@
 -- What one instruction does: the latches that it writes, in order, each with its value and with what flows into it; the CSR
--- that it writes; and what follows. One row a form. The behaviour is that of the unprivileged manual (RV32I and Zicsr); which
+-- that it writes; and what follows. One row a form. The behaviour is that of the unprivileged manual (RV32I, M and Zicsr); which
 -- latches are written, and in which order, is this project's own. Privilege is checked before.
-use Rattle.std.specs.Prelude.{◌≡◌, ℕ, ◌+◌, ◌*◌, ◌/◌, ◌%◌, ◌^◌, Bool, true, ◌&&◌, not, List, [], ◌∷◌, ◌++◌, Option, None, Some, ℤ, ◌==◌, if◌then◌else◌}
+use Rattle.std.specs.Prelude.{◌≡◌, ℕ, ◌+◌, ◌*◌, ◌/◌, ◌%◌, ◌^◌, Bool, true, false, ◌&&◌, not, List, [], ◌∷◌, ◌++◌, Option, None, Some, ℤ, ◌==◌, if◌then◌else◌}
 use Rattle.std.specs.List.{list_any}
 use Rattle.isa_model.specs.declared.instr.Instr.{Instr}
 use Rattle.isa_model.specs.declared.instr.Instr.TheVariants.{Lui, Auipc, Jal, Jalr, Branch, Load, Store, AluImm, AluReg, Fence, Ecall, Ebreak, Mret, Csr, CsrImm}
+use Rattle.isa_model.specs.declared.instr.Alu.{Alu}
+use Rattle.isa_model.specs.declared.instr.Alu.TheVariants.{Mul, Mulh, Mulhsu, Mulhu, Div, Divu, Rem, Remu}
 use Rattle.isa_model.specs.declared.instr.LoadKind.{LoadKind}
 use Rattle.isa_model.specs.declared.instr.LoadKind.TheVariants as loads
 use Rattle.isa_model.specs.declared.instr.StoreKind.{StoreKind}
@@ -80,6 +82,22 @@ ports o = port_a o ++ to latches.PortB o.rs2 (Moved Rs2)
 abbrev pub result : ℕ → ℕ → Flow → List Write
 result rd value flow = to latches.Res value flow ++ to_reg rd value flow
 
+-- the operations of the multiplier, which divides too
+abbrev pub is_of_multiplier : Alu → Bool
+is_of_multiplier Mul = true
+is_of_multiplier Mulh = true
+is_of_multiplier Mulhsu = true
+is_of_multiplier Mulhu = true
+is_of_multiplier Div = true
+is_of_multiplier Divu = true
+is_of_multiplier Rem = true
+is_of_multiplier Remu = true
+is_of_multiplier _ = false
+
+-- the multiplier has a latch of its own, from which its result goes to Res
+abbrev pub multiplier : Alu → ℕ → Flow → List Write
+multiplier op value flow = if is_of_multiplier op then to latches.Mul value flow else []
+
 abbrev pub does : List Write → Next → Effect
 does writes next = record { writes = writes; csr = None; next = next }
 
@@ -149,7 +167,10 @@ effect_of (Store kind rs2 rs1 imm) pc o =
     if address o.rs1 imm % store_size kind == 0 then store_word kind o.rs2 pc (address o.rs1 imm) begun o.word else does begun (Raises 6)
 effect_of (AluImm op rd rs1 imm) pc o =
     does (port_a o ++ result rd (alu_of op o.rs1 (two_complement 32 imm)) (Mixed (Rs1 ∷ []))) (Goes (low_word (pc + 4)))
-effect_of (AluReg op rd rs1 rs2) pc o = does (ports o ++ result rd (alu_of op o.rs1 o.rs2) (Mixed (Rs1 ∷ Rs2 ∷ []))) (Goes (low_word (pc + 4)))
+effect_of (AluReg op rd rs1 rs2) pc o =
+    let value = alu_of op o.rs1 o.rs2 in
+    let flow = Mixed (Rs1 ∷ Rs2 ∷ []) in
+    does (ports o ++ multiplier op value flow ++ result rd value flow) (Goes (low_word (pc + 4)))
 effect_of (Fence word) pc o = does [] (Goes (low_word (pc + 4)))
 effect_of Ecall pc o = does [] Calls
 effect_of Ebreak pc o = does [] (Raises 3)

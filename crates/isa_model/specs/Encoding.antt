@@ -1,5 +1,5 @@
 -- The word of each instruction, as the manual's formats compose it from the fields (unprivileged manual, "RV32I Base
--- Integer Instruction Set", "Zicsr" and "RV32/64G Instruction Set Listings"; privileged manual for MRET).
+-- Integer Instruction Set", "M", "Zicsr" and "RV32/64G Instruction Set Listings"; privileged manual for MRET).
 use Rattle.std.specs.Prelude.{◌≡◌, ℕ, ◌+◌, ◌*◌, ◌/◌, ◌%◌, ◌^◌, ◌<◌, ℤ, pos, negsuc}
 use Rattle.isa_model.specs.Bits.{bits, two_complement, IsInBits}
 use Rattle.isa_model.specs.declared.instr.Cmp.{Cmp}
@@ -9,7 +9,7 @@ use Rattle.isa_model.specs.declared.instr.LoadKind.TheVariants as loads
 use Rattle.isa_model.specs.declared.instr.StoreKind.{StoreKind}
 use Rattle.isa_model.specs.declared.instr.StoreKind.TheVariants as stores
 use Rattle.isa_model.specs.declared.instr.Alu.{Alu}
-use Rattle.isa_model.specs.declared.instr.Alu.TheVariants.{Add, Sub, Sll, Slt, Sltu, Xor, Srl, Sra, Or, And}
+use Rattle.isa_model.specs.declared.instr.Alu.TheVariants.{Add, Sub, Sll, Slt, Sltu, Xor, Srl, Sra, Or, And, Mul, Mulh, Mulhsu, Mulhu, Div, Divu, Rem, Remu}
 use Rattle.isa_model.specs.declared.instr.CsrOp.{CsrOp}
 use Rattle.isa_model.specs.declared.instr.CsrOp.TheVariants.{Rw, Rs, Rc}
 use Rattle.isa_model.specs.declared.instr.Instr.{Instr}
@@ -26,7 +26,6 @@ IsShiftAmount (negsuc n) = ⊥
 
 -- the operations with an immediate, and the range of the immediate
 abbrev pub IsImmediate : Alu → ℤ → Type 0
-IsImmediate Sub imm = ⊥
 IsImmediate Sll imm = IsShiftAmount imm
 IsImmediate Srl imm = IsShiftAmount imm
 IsImmediate Sra imm = IsShiftAmount imm
@@ -36,6 +35,7 @@ IsImmediate Sltu imm = IsInBits 11 imm
 IsImmediate Xor imm = IsInBits 11 imm
 IsImmediate Or imm = IsInBits 11 imm
 IsImmediate And imm = IsInBits 11 imm
+IsImmediate _ imm = ⊥
 
 -- the values of the type that are instructions: each number in the range of its field
 abbrev pub IsInstr : Instr → Type 0
@@ -86,10 +86,26 @@ funct3_of_alu Srl = 5
 funct3_of_alu Sra = 5
 funct3_of_alu Or = 6
 funct3_of_alu And = 7
+funct3_of_alu Mul = 0
+funct3_of_alu Mulh = 1
+funct3_of_alu Mulhsu = 2
+funct3_of_alu Mulhu = 3
+funct3_of_alu Div = 4
+funct3_of_alu Divu = 5
+funct3_of_alu Rem = 6
+funct3_of_alu Remu = 7
 
 abbrev pub funct7_of_alu : Alu → ℕ
 funct7_of_alu Sub = 0x20
 funct7_of_alu Sra = 0x20
+funct7_of_alu Mul = 1
+funct7_of_alu Mulh = 1
+funct7_of_alu Mulhsu = 1
+funct7_of_alu Mulhu = 1
+funct7_of_alu Div = 1
+funct7_of_alu Divu = 1
+funct7_of_alu Rem = 1
+funct7_of_alu Remu = 1
 funct7_of_alu _ = 0
 
 abbrev pub funct3_of_csr : CsrOp → ℕ

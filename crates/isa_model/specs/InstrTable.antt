@@ -7,7 +7,7 @@ use Rattle.isa_model.specs.Encoding.{Spells}
 use Rattle.isa_model.specs.declared.instr.Cmp.TheVariants.{Beq, Bne, Blt, Bge, Bltu, Bgeu}
 use Rattle.isa_model.specs.declared.instr.LoadKind.TheVariants as loads
 use Rattle.isa_model.specs.declared.instr.StoreKind.TheVariants as stores
-use Rattle.isa_model.specs.declared.instr.Alu.TheVariants.{Add, Sub, Sll, Slt, Sltu, Xor, Srl, Sra, Or, And}
+use Rattle.isa_model.specs.declared.instr.Alu.TheVariants.{Add, Sub, Sll, Slt, Sltu, Xor, Srl, Sra, Or, And, Mul, Mulh, Mulhsu, Mulhu, Div, Divu, Rem, Remu}
 use Rattle.isa_model.specs.declared.instr.CsrOp.TheVariants.{Rw, Rs, Rc}
 use Rattle.isa_model.specs.declared.instr.Instr.{Instr}
 use Rattle.isa_model.specs.declared.instr.Instr.TheVariants.{Lui, Auipc, Jal, Jalr, Branch, Load, Store, AluImm, AluReg, Fence, Ecall, Ebreak, Mret, Csr, CsrImm}
@@ -104,6 +104,14 @@ alu_reg_rows =
     ∷ record { fixed = (12, 3, 5) ∷ (25, 7, 0x20) ∷ []; means = λ w. AluReg Sra (rd_field w) (rs1_field w) (rs2_field w) }
     ∷ record { fixed = (12, 3, 6) ∷ (25, 7, 0) ∷ []; means = λ w. AluReg Or (rd_field w) (rs1_field w) (rs2_field w) }
     ∷ record { fixed = (12, 3, 7) ∷ (25, 7, 0) ∷ []; means = λ w. AluReg And (rd_field w) (rs1_field w) (rs2_field w) }
+    ∷ record { fixed = (12, 3, 0) ∷ (25, 7, 1) ∷ []; means = λ w. AluReg Mul (rd_field w) (rs1_field w) (rs2_field w) }
+    ∷ record { fixed = (12, 3, 1) ∷ (25, 7, 1) ∷ []; means = λ w. AluReg Mulh (rd_field w) (rs1_field w) (rs2_field w) }
+    ∷ record { fixed = (12, 3, 2) ∷ (25, 7, 1) ∷ []; means = λ w. AluReg Mulhsu (rd_field w) (rs1_field w) (rs2_field w) }
+    ∷ record { fixed = (12, 3, 3) ∷ (25, 7, 1) ∷ []; means = λ w. AluReg Mulhu (rd_field w) (rs1_field w) (rs2_field w) }
+    ∷ record { fixed = (12, 3, 4) ∷ (25, 7, 1) ∷ []; means = λ w. AluReg Div (rd_field w) (rs1_field w) (rs2_field w) }
+    ∷ record { fixed = (12, 3, 5) ∷ (25, 7, 1) ∷ []; means = λ w. AluReg Divu (rd_field w) (rs1_field w) (rs2_field w) }
+    ∷ record { fixed = (12, 3, 6) ∷ (25, 7, 1) ∷ []; means = λ w. AluReg Rem (rd_field w) (rs1_field w) (rs2_field w) }
+    ∷ record { fixed = (12, 3, 7) ∷ (25, 7, 1) ∷ []; means = λ w. AluReg Remu (rd_field w) (rs1_field w) (rs2_field w) }
     ∷ []
 
 abbrev pub fence_rows : List Row

@@ -1,7 +1,7 @@
 -- Latches: when two are one, and their order (this project's own).
 use Rattle.std.specs.Prelude.{◌≡◌, ℕ, ◌+◌, ◌<◌, Bool, true, false, ◌==◌, ◌⊎◌, nat_lt}
 use Rattle.isa_model.specs.declared.latch.Latch.{Latch}
-use Rattle.isa_model.specs.declared.latch.Latch.TheVariants.{Reg, PortA, PortB, Res, Load, Store, Scr, Mem}
+use Rattle.isa_model.specs.declared.latch.Latch.TheVariants.{Reg, PortA, PortB, Res, Load, Store, Scr, Mul, Mem}
 
 abbrev pub same_latch : Latch → Latch → Bool
 same_latch (Reg a) (Reg b) = a == b
@@ -12,6 +12,7 @@ same_latch Res Res = true
 same_latch Load Load = true
 same_latch Store Store = true
 same_latch Scr Scr = true
+same_latch Mul Mul = true
 same_latch _ _ = false
 
 -- the register of a latch exists
@@ -19,7 +20,7 @@ abbrev pub IsLatch : Latch → Type 0
 IsLatch (Reg r) = r < 32
 IsLatch _ = Unit {0}
 
--- the place of a latch in the order: registers by number, PortA, PortB, Res, Load, Store, Scr, memory by address
+-- the place of a latch in the order: registers by number, PortA, PortB, Res, Load, Store, Scr, Mul, memory by address
 abbrev pub latch_rank : Latch → ℕ
 latch_rank (Reg r) = r
 latch_rank PortA = 32
@@ -28,7 +29,8 @@ latch_rank Res = 34
 latch_rank Load = 35
 latch_rank Store = 36
 latch_rank Scr = 37
-latch_rank (Mem a) = 38 + a
+latch_rank Mul = 38
+latch_rank (Mem a) = 39 + a
 
 abbrev pub is_before : Latch → Latch → Bool
 is_before a b = nat_lt (latch_rank a) (latch_rank b)

@@ -8,4 +8,5 @@ pub mod TaskPlaces
 pub mod Alone
 pub mod AloneValue
 pub mod Control
+pub mod Course
 pub mod Laws

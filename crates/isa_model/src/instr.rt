@@ -1,4 +1,4 @@
-//! Instructions of RV32I and Zicsr, and MRET (unprivileged manual, "RV32I Base Integer Instruction Set" and "Zicsr";
+//! Instructions of RV32I, M and Zicsr, and MRET (unprivileged manual, "RV32I Base Integer Instruction Set", "M" and "Zicsr";
 //! privileged manual, "Trap-Return Instructions").
 
 use crate::reg_no::RegNo;
@@ -32,7 +32,8 @@ pub enum StoreKind {
     W,
 }
 
-/// An operation of the arithmetic unit.
+/// An operation of the arithmetic unit. The last eight are those of the extension M: the low word of a product; its high word with
+/// both operands signed, the first alone signed, and both unsigned; the quotient and the remainder of signed and of unsigned numbers.
 #[derive(Clone, Copy, Debug, PartialEq, Eq)]
 pub enum Alu {
     Add,
@@ -45,6 +46,14 @@ pub enum Alu {
     Sra,
     Or,
     And,
+    Mul,
+    Mulh,
+    Mulhsu,
+    Mulhu,
+    Div,
+    Divu,
+    Rem,
+    Remu,
 }
 
 /// What a CSR instruction does with its operand: write it, set its bits, or clear its bits.
@@ -57,7 +66,8 @@ pub enum CsrOp {
 
 /// An instruction. Ranges, outside of which a value is no instruction: `imm20` below 2^20; `off` of `Jal` even, from -2^20 to
 /// 2^20 - 2; `off` of `Branch` even, from -4096 to 4094; `imm` from -2048 to 2047, but for shifts from 0 to 31; `csr` below
-/// 4096; `uimm` below 32; `word` one whose opcode is MISC-MEM and whose funct3 is 0. There is no `AluImm` with `Sub`.
+/// 4096; `uimm` below 32; `word` one whose opcode is MISC-MEM and whose funct3 is 0. There is no `AluImm` with `Sub` or with an
+/// operation of M.
 #[derive(Clone, Copy, Debug, PartialEq, Eq)]
 pub enum Instr {
     /// The upper immediate, in units of 4096.

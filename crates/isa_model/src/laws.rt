@@ -2,7 +2,7 @@
 
 ghost use Rattle.isa_model.specs.LatchOrder.{is_before, IsStrictTotalOrder};
 ghost use Rattle.isa_model.specs.Control.{ControlTellsEndKind};
-ghost use Rattle.isa_model.specs.Laws.{WritesEachLatchOnce, ZeroRegisterStays, PcIsAligned};
+ghost use Rattle.isa_model.specs.Laws.{WritesEachLatchOnce, ZeroRegisterStays, PcIsAligned, DividesTowardsZero};
 
 /// The order of latches is strict, and total on the latches that there are.
 pub fn latch_order_is_total()
@@ -27,4 +27,9 @@ pub fn pc_is_aligned()
 /// Tasks of equal fuel and equal control have one kind of end.
 pub fn control_tells_end_kind()
     ensures law { ControlTellsEndKind }
+{}
+
+/// A signed division by another number than 0 rounds towards zero, and its remainder is what is left.
+pub fn division_rounds_towards_zero()
+    ensures law { DividesTowardsZero }
 {}

@@ -19,6 +19,3 @@ pub use latch::Latch;
 pub use reg_no::RegNo;
 pub use task::Task;
 pub use words::Words;
-
-#[cfg(test)]
-mod tests;
