@@ -8,7 +8,7 @@ use Rattle.isa_model.specs.declared.instr.LoadKind.TheVariants as loads
 use Rattle.isa_model.specs.declared.instr.StoreKind.{StoreKind}
 use Rattle.isa_model.specs.declared.instr.StoreKind.TheVariants as stores
 use Rattle.isa_model.specs.declared.instr.Alu.{Alu}
-use Rattle.isa_model.specs.declared.instr.Alu.TheVariants.{Add, Sub, Sll, Slt, Sltu, Xor, Srl, Sra, Or, And}
+use Rattle.isa_model.specs.declared.instr.Alu.TheVariants.{Add, Sub, Sll, Slt, Sltu, Xor, Srl, Sra, Or, And, Mul, Mulh, Mulhsu, Mulhu, Div, Divu, Rem, Remu}
 use Rattle.isa_model.specs.declared.instr.CsrOp.{CsrOp}
 use Rattle.isa_model.specs.declared.instr.CsrOp.TheVariants.{Rw, Rs, Rc}
 
@@ -44,11 +44,18 @@ register_name Srl = codes "srl"
 register_name Sra = codes "sra"
 register_name Or = codes "or"
 register_name And = codes "and"
+register_name Mul = codes "mul"
+register_name Mulh = codes "mulh"
+register_name Mulhsu = codes "mulhsu"
+register_name Mulhu = codes "mulhu"
+register_name Div = codes "div"
+register_name Divu = codes "divu"
+register_name Rem = codes "rem"
+register_name Remu = codes "remu"
 
--- of an operation on a register and an immediate; there is none with Sub
+-- of an operation on a register and an immediate; there is none with Sub or an operation of M
 abbrev pub immediate_name : Alu → List ℕ
 immediate_name Add = codes "addi"
-immediate_name Sub = []
 immediate_name Sll = codes "slli"
 immediate_name Slt = codes "slti"
 immediate_name Sltu = codes "sltiu"
@@ -57,6 +64,7 @@ immediate_name Srl = codes "srli"
 immediate_name Sra = codes "srai"
 immediate_name Or = codes "ori"
 immediate_name And = codes "andi"
+immediate_name _ = []
 
 abbrev pub csr_name : CsrOp → List ℕ
 csr_name Rw = codes "csrrw"

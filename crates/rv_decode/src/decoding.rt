@@ -161,6 +161,14 @@ fn alu_register(word: u32) -> Option<Instr>
         (5, 0x20) => Alu::Sra,
         (6, 0) => Alu::Or,
         (7, 0) => Alu::And,
+        (0, 1) => Alu::Mul,
+        (1, 1) => Alu::Mulh,
+        (2, 1) => Alu::Mulhsu,
+        (3, 1) => Alu::Mulhu,
+        (4, 1) => Alu::Div,
+        (5, 1) => Alu::Divu,
+        (6, 1) => Alu::Rem,
+        (7, 1) => Alu::Remu,
         _ => return None,
     };
     Some(Instr::AluReg {

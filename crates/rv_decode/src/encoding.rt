@@ -192,14 +192,14 @@ fn funct3_of_alu(op: Alu) -> u32
     ensures bound { result < 2 ^ 3 }
 {
     match op {
-        Alu::Add | Alu::Sub => 0,
-        Alu::Sll => 1,
-        Alu::Slt => 2,
-        Alu::Sltu => 3,
-        Alu::Xor => 4,
-        Alu::Srl | Alu::Sra => 5,
-        Alu::Or => 6,
-        Alu::And => 7,
+        Alu::Add | Alu::Sub | Alu::Mul => 0,
+        Alu::Sll | Alu::Mulh => 1,
+        Alu::Slt | Alu::Mulhsu => 2,
+        Alu::Sltu | Alu::Mulhu => 3,
+        Alu::Xor | Alu::Div => 4,
+        Alu::Srl | Alu::Sra | Alu::Divu => 5,
+        Alu::Or | Alu::Rem => 6,
+        Alu::And | Alu::Remu => 7,
     }
 }
 
@@ -210,6 +210,14 @@ fn funct7_of_alu(op: Alu) -> u32
 {
     match op {
         Alu::Sub | Alu::Sra => 0x20,
+        Alu::Mul
+        | Alu::Mulh
+        | Alu::Mulhsu
+        | Alu::Mulhu
+        | Alu::Div
+        | Alu::Divu
+        | Alu::Rem
+        | Alu::Remu => 1,
         _ => 0,
     }
 }

@@ -59,16 +59,23 @@ pub fn register_name(op: Alu) -> &'static [u8]
         Alu::Sra => b"sra",
         Alu::Or => b"or",
         Alu::And => b"and",
+        Alu::Mul => b"mul",
+        Alu::Mulh => b"mulh",
+        Alu::Mulhsu => b"mulhsu",
+        Alu::Mulhu => b"mulhu",
+        Alu::Div => b"div",
+        Alu::Divu => b"divu",
+        Alu::Rem => b"rem",
+        Alu::Remu => b"remu",
     }
 }
 
-/// The mnemonic of an operation on a register and an immediate; empty for `Sub`, of which there is none.
+/// The mnemonic of an operation on a register and an immediate; empty for `Sub` and the operations of M, of which there is none.
 pub fn immediate_name(op: Alu) -> &'static [u8]
     ensures name { result.now ≡ immediate_name op }
 {
     match op {
         Alu::Add => b"addi",
-        Alu::Sub => b"",
         Alu::Sll => b"slli",
         Alu::Slt => b"slti",
         Alu::Sltu => b"sltiu",
@@ -77,6 +84,15 @@ pub fn immediate_name(op: Alu) -> &'static [u8]
         Alu::Sra => b"srai",
         Alu::Or => b"ori",
         Alu::And => b"andi",
+        Alu::Sub
+        | Alu::Mul
+        | Alu::Mulh
+        | Alu::Mulhsu
+        | Alu::Mulhu
+        | Alu::Div
+        | Alu::Divu
+        | Alu::Rem
+        | Alu::Remu => b"",
     }
 }
 

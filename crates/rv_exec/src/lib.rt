@@ -4,12 +4,11 @@
 
 mod compare;
 mod memory;
+mod multiply;
 mod operate;
 
 pub use compare::taken;
 pub use isa_model::{Alu, Cmp, LoadKind, StoreKind};
 pub use memory::{extract, load_aligned, merge, store_aligned};
+pub use multiply::is_of_multiplier;
 pub use operate::alu;
-
-#[cfg(test)]
-mod tests;
