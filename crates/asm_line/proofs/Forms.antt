@@ -109,6 +109,14 @@ named_register alus.Srl = named_by (words.Register alus.Srl) refl refl refl
 named_register alus.Sra = named_by (words.Register alus.Sra) refl refl refl
 named_register alus.Or = named_by (words.Register alus.Or) refl refl refl
 named_register alus.And = named_by (words.Register alus.And) refl refl refl
+named_register alus.Mul = named_by (words.Register alus.Mul) refl refl refl
+named_register alus.Mulh = named_by (words.Register alus.Mulh) refl refl refl
+named_register alus.Mulhsu = named_by (words.Register alus.Mulhsu) refl refl refl
+named_register alus.Mulhu = named_by (words.Register alus.Mulhu) refl refl refl
+named_register alus.Div = named_by (words.Register alus.Div) refl refl refl
+named_register alus.Divu = named_by (words.Register alus.Divu) refl refl refl
+named_register alus.Rem = named_by (words.Register alus.Rem) refl refl refl
+named_register alus.Remu = named_by (words.Register alus.Remu) refl refl refl
 
 named_csr : (op : CsrOp) → IsNamed (words.Csr op)
 named_csr csrs.Rw = named_by (words.Csr csrs.Rw) refl refl refl
@@ -191,7 +199,6 @@ reads_shift op rd rs1 (pos n) p q r =
 
 reads_alu_imm : (op : Alu) (rd rs1 : ℕ) (imm : ℤ) → rd < 32 → rs1 < 32 → IsImmediate op imm
     → Reads (text_of_instr (instrs.AluImm op rd rs1 imm)) (word_of (instrs.AluImm op rd rs1 imm))
-reads_alu_imm alus.Sub rd rs1 imm p q r = absurd r
 reads_alu_imm alus.Add rd rs1 imm p q r = reads_immediate immediates.Add rd rs1 imm p q r
 reads_alu_imm alus.Slt rd rs1 imm p q r = reads_immediate immediates.Slt rd rs1 imm p q r
 reads_alu_imm alus.Sltu rd rs1 imm p q r = reads_immediate immediates.Sltu rd rs1 imm p q r
@@ -201,6 +208,7 @@ reads_alu_imm alus.And rd rs1 imm p q r = reads_immediate immediates.And rd rs1 
 reads_alu_imm alus.Sll rd rs1 imm p q r = reads_shift shifts.Sll rd rs1 imm p q r
 reads_alu_imm alus.Srl rd rs1 imm p q r = reads_shift shifts.Srl rd rs1 imm p q r
 reads_alu_imm alus.Sra rd rs1 imm p q r = reads_shift shifts.Sra rd rs1 imm p q r
+reads_alu_imm _ rd rs1 imm p q r = absurd r
 
 -- what is written of an instruction is read as its word
 pub reads_instr : (instr : Instr) → IsInstr instr → Reads (text_of_instr instr) (word_of instr)

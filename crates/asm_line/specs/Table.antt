@@ -124,6 +124,8 @@ all_words =
     ∷ words.Register alus.Add ∷ words.Register alus.Sub ∷ words.Register alus.Sll ∷ words.Register alus.Slt
     ∷ words.Register alus.Sltu ∷ words.Register alus.Xor ∷ words.Register alus.Srl ∷ words.Register alus.Sra
     ∷ words.Register alus.Or ∷ words.Register alus.And
+    ∷ words.Register alus.Mul ∷ words.Register alus.Mulh ∷ words.Register alus.Mulhsu ∷ words.Register alus.Mulhu
+    ∷ words.Register alus.Div ∷ words.Register alus.Divu ∷ words.Register alus.Rem ∷ words.Register alus.Remu
     ∷ words.Fence ∷ words.Ecall ∷ words.Ebreak ∷ words.Mret
     ∷ words.Csr csrs.Rw ∷ words.Csr csrs.Rs ∷ words.Csr csrs.Rc
     ∷ words.CsrImmediate csrs.Rw ∷ words.CsrImmediate csrs.Rs ∷ words.CsrImmediate csrs.Rc

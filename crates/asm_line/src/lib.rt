@@ -15,6 +15,3 @@ mod reading;
 
 pub use line::{AsmKind, Item, Label, Labels, Line};
 pub use reading::read_line;
-
-#[cfg(test)]
-mod tests;

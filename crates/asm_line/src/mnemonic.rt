@@ -68,7 +68,7 @@ pub(crate) enum Mnemonic {
 }
 
 /// Every word, once.
-static ALL_WORDS: [Mnemonic; 56] = [
+static ALL_WORDS: [Mnemonic; 64] = [
     Mnemonic::Lui,
     Mnemonic::Auipc,
     Mnemonic::Jal,
@@ -106,6 +106,14 @@ static ALL_WORDS: [Mnemonic; 56] = [
     Mnemonic::Register(Alu::Sra),
     Mnemonic::Register(Alu::Or),
     Mnemonic::Register(Alu::And),
+    Mnemonic::Register(Alu::Mul),
+    Mnemonic::Register(Alu::Mulh),
+    Mnemonic::Register(Alu::Mulhsu),
+    Mnemonic::Register(Alu::Mulhu),
+    Mnemonic::Register(Alu::Div),
+    Mnemonic::Register(Alu::Divu),
+    Mnemonic::Register(Alu::Rem),
+    Mnemonic::Register(Alu::Remu),
     Mnemonic::Fence,
     Mnemonic::Ecall,
     Mnemonic::Ebreak,

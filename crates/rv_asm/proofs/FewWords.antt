@@ -1,5 +1,5 @@
 -- How many words a listing has.
-use Rattle.std.proofs.Common.{◌≡◌, ℕ, ◌+◌, ◌≤◌, List, [], ◌∷◌, ◌++◌, map, length, Option, Some, None, Result, Ok, Err, IfOk, ℤ, refl, sym, ap, subst, ◌∙◌, arith, length-append}
+use Rattle.std.proofs.Common.{◌≡◌, ℕ, ◌+◌, ◌≤◌, List, [], ◌∷◌, ◌++◌, map, length, Option, Some, None, Result, Ok, Err, IfOk, ℤ, refl, sym, subst, ◌∙◌, arith, length-append}
 use Rattle.std.proofs.lemmas.List.{length-map}
 use Rattle.asm_line.specs.declared.line.AsmKind.{AsmKind}
 use Rattle.asm_line.specs.declared.line.Item.{Item}
@@ -12,7 +12,7 @@ use Rattle.rv_asm.specs.declared.fault.AsmFault.{AsmFault}
 use Rattle.rv_asm.specs.declared.listing.Placed.{Placed}
 use Rattle.rv_asm.specs.Listing.{word_count, placed_from, placed_lines, place_of}
 use Rattle.rv_asm.specs.Refusals.{max_words, kind_in_reading, refusal_or, refusal_in_reading}
-use Rattle.rv_asm.specs.Assembly.{words_of_item, words_of_line, on_line, words_then, linked, assembled_of, read_then, assembly, Assembles}
+use Rattle.rv_asm.specs.Assembly.{words_of_item, words_of_line, on_line, words_then, linked, read_then, assembly, Assembles}
 use Rattle.rv_asm.proofs.Reading.{room_of_line}
 
 -- a line has as many words as are counted for it

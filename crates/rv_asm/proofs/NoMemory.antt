@@ -1,5 +1,5 @@
 -- No line is refused for want of memory.
-use Rattle.std.proofs.Common.{◌≡◌, ◌≢◌, ℕ, ◌+◌, ◌-◌, ◌^◌, Bool, true, false, if◌then◌else◌, List, [], ◌∷◌, ◌++◌, map, Option, Some, None, IfSome, IfErr, Result, Ok, Err, nat_lt, ℤ, refl}
+use Rattle.std.proofs.Common.{◌≡◌, ◌≢◌, ℕ, ◌+◌, ◌-◌, ◌^◌, Bool, true, false, if◌then◌else◌, List, [], ◌∷◌, ◌++◌, map, take, drop, Option, Some, None, IfSome, IfErr, Result, Ok, Err, nat_lt, ℤ, refl}
 use Rattle.std.specs.List.{find, AllByRecursion}
 use Rattle.std.specs.Str.{bytes_eq}
 use Rattle.asm_line.specs.declared.line.AsmKind.{AsmKind}
@@ -107,9 +107,17 @@ from_word field text f = then_of_text (word_in text) (λ n. Ok (field n f)) (wor
 abbrev ReadsText : {O F : Type 0} → (O → List ℕ → F → Result F AsmKind) → O → Type 0
 ReadsText {O} {F} with_one operand = (text : List ℕ) (f : F) → IsOfText (with_one operand text f)
 
--- the operands of each word
+-- what holds of each item of two lists holds of each item of both together
+all_of_both : {X : Type 0} (P : X → Type 0) (xs ys : List X) → AllByRecursion P xs → AllByRecursion P ys → AllByRecursion P (xs ++ ys)
+all_of_both P [] ys first second = second
+all_of_both P (x ∷ xs) ys first second = (first.0, all_of_both P xs ys first.1 second)
+
+-- the operands of each word; one search over all words would be too long
 rows_of_text : AllByRecursion (λ word. AllByRecursion (ReadsText with_operand) (row_of word).operands) all_words
-rows_of_text = search (from_register, from_number, from_unsigned, from_address, from_csr, from_target, from_word)
+rows_of_text =
+    all_of_both (λ word. AllByRecursion (ReadsText with_operand) (row_of word).operands) (take 32 all_words) (drop 32 all_words)
+    (search (from_register, from_number, from_unsigned, from_address, from_csr, from_target, from_word))
+    (search (from_register, from_number, from_unsigned, from_address, from_csr, from_target, from_word))
 
 operands_of_text : (operands : _) → AllByRecursion (ReadsText with_operand) operands → (texts : List (List ℕ)) (f : _) → IsOfText (with_operands operands texts f)
 operands_of_text [] each texts f = ok_of_text f

@@ -11,7 +11,7 @@ use Rattle.isa_model.specs.declared.instr.LoadKind.TheVariants as loads
 use Rattle.isa_model.specs.declared.instr.StoreKind.{StoreKind}
 use Rattle.isa_model.specs.declared.instr.StoreKind.TheVariants as stores
 use Rattle.isa_model.specs.declared.instr.Alu.{Alu}
-use Rattle.isa_model.specs.declared.instr.Alu.TheVariants.{Add, Sub, Sll, Slt, Sltu, Xor, Srl, Sra, Or, And}
+use Rattle.isa_model.specs.declared.instr.Alu.TheVariants.{Add, Sub, Sll, Slt, Sltu, Xor, Srl, Sra, Or, And, Mul, Mulh, Mulhsu, Mulhu, Div, Divu, Rem, Remu}
 use Rattle.isa_model.specs.declared.instr.CsrOp.{CsrOp}
 use Rattle.isa_model.specs.declared.instr.CsrOp.TheVariants.{Rw, Rs, Rc}
 use Rattle.isa_model.specs.declared.instr.Instr.{Instr}
@@ -126,6 +126,14 @@ operation_printed Srl = (refl, refl)
 operation_printed Sra = (refl, refl)
 operation_printed Or = (refl, refl)
 operation_printed And = (refl, refl)
+operation_printed Mul = (refl, refl)
+operation_printed Mulh = (refl, refl)
+operation_printed Mulhsu = (refl, refl)
+operation_printed Mulhu = (refl, refl)
+operation_printed Div = (refl, refl)
+operation_printed Divu = (refl, refl)
+operation_printed Rem = (refl, refl)
+operation_printed Remu = (refl, refl)
 
 csr_name_printed : (op : CsrOp) → IsPrinted (csr_name op) × IsPrinted (csr_immediate_name op)
 csr_name_printed Rw = (refl, refl)

@@ -14,6 +14,3 @@ pub use asm_line::AsmKind;
 pub use assembling::{Assembled, assemble};
 pub use disassembling::{disassemble, word_line};
 pub use fault::AsmFault;
-
-#[cfg(test)]
-mod tests;
