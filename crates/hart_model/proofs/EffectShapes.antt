@@ -1,6 +1,6 @@
--- What an instruction in user mode may write, by what follows it: one that goes on writes registers, ports, Res, Load, Store and data
--- words; one that faults writes ports and Res alone; and a call writes nothing.
-use Rattle.std.proofs.Common.{◌≡◌, ℕ, ◌+◌, ◌*◌, ◌/◌, ◌%◌, ◌^◌, ◌<◌, ◌==◌, false, List, [], ◌∷◌, ◌++◌, Option, Some, None, refl, arith, ◌≢◌}
+-- What an instruction in user mode may write, by what follows it: one that goes on writes registers, ports, Res, Load, Store, Mul and
+-- data words; one that faults writes ports and Res alone; and a call writes nothing.
+use Rattle.std.proofs.Common.{◌≡◌, ℕ, ◌+◌, ◌*◌, ◌/◌, ◌%◌, ◌^◌, ◌<◌, ◌==◌, if◌then◌else◌, false, List, [], ◌∷◌, ◌++◌, Option, Some, None, refl, arith, ◌≢◌}
 use Rattle.std.proofs.lemmas.Bool.{cond_both, eqb-true, eqb-false}
 use Rattle.isa_model.specs.declared.task.Task.{Task}
 use Rattle.isa_model.specs.declared.latch.Latch.{Latch}
@@ -11,10 +11,11 @@ use Rattle.isa_model.specs.declared.instr.LoadKind.{LoadKind}
 use Rattle.isa_model.specs.declared.instr.StoreKind.{StoreKind}
 use Rattle.isa_model.specs.Bits.{low_word, word_address, two_complement}
 use Rattle.isa_model.specs.Arithmetic.{alu_of, is_taken, load_size, store_size, load_result}
-use Rattle.isa_model.specs.Effect.{Effect, Write, Flow, Constant, Moved, Mixed, Rs1, Rs2, Next, Goes, Raises, Calls, Returns, effect_of, address, load_word, store_word, loaded_flow, to, to_reg, result, ports, jump, does}
+use Rattle.isa_model.specs.Effect.{Effect, Write, Flow, Constant, Moved, Mixed, Rs1, Rs2, Next, Goes, Raises, Calls, Returns, effect_of, address, load_word, store_word, loaded_flow, to, to_reg, result, is_of_multiplier, ports, jump, does}
 use Rattle.isa_model.specs.TaskPlaces.{IsValidTask}
 use Rattle.isa_model.specs.InstrTable.{instr_of}
 use Rattle.isa_model.specs.Alone.{AloneState, code_word_at, is_data_address, data_word_at, operands_of, is_privileged}
+use Rattle.isa_model.proofs.RunLaws.{four_more}
 use Rattle.hart_model.specs.UserStep.{exception}
 use Rattle.hart_model.specs.UserLaws.{IsTaskLatch, alone_effect_of_instr, alone_effect_of_word, alone_effect}
 use Rattle.hart_model.proofs.DecodedRegisters.{HasRegisters, decoded_registers}
@@ -45,9 +46,6 @@ HasShapeBy T writes Returns = ⊥
 
 abbrev pub HasShape : Task → Effect → Type 0
 HasShape T e = HasShapeBy T e.writes e.next
-
-four_more : (pc : ℕ) → pc % 4 ≡ 0 → low_word (pc + 4) % 4 ≡ 0
-four_more pc h = omega arith
 
 module _ (T : Task) where
   reg_shape : (rd value : ℕ) (flow : Flow) → rd < 32 → AllTo (IsRunWrite T) (to_reg rd value flow)
@@ -97,7 +95,12 @@ module _ (T : Task) where
       (λ t. store_shape kind second pc (address first imm) first second (address first imm) values valid even) (λ n. (omega arith, (tt, (tt, (tt, tt)))))
   row_shape (AluImm op rd rs1 imm) pc values valid has even f = (four_more pc even, (tt, (tt, reg_shape rd (alu_of op (values (latches.Reg rs1)) (two_complement 32 imm)) (Mixed (Rs1 ∷ [])) has.rd)))
   row_shape (AluReg op rd rs1 rs2) pc values valid has even f =
-      (four_more pc even, (tt, (tt, (tt, reg_shape rd (alu_of op (values (latches.Reg rs1)) (values (latches.Reg rs2))) (Mixed (Rs1 ∷ Rs2 ∷ [])) has.rd))))
+      let value = alu_of op (values (latches.Reg rs1)) (values (latches.Reg rs2)) in
+      let flow = Mixed (Rs1 ∷ Rs2 ∷ []) in
+      let shape : AllTo (IsRunWrite T) (to_reg rd value flow) = reg_shape rd value flow has.rd in
+      let rest : AllTo (IsRunWrite T) ((if is_of_multiplier op then to latches.Mul value flow else []) ++ result rd value flow) =
+      cond_both (is_of_multiplier op) (to latches.Mul value flow) [] (λ (ws : List Write). AllTo (IsRunWrite T) (ws ++ result rd value flow)) (λ t. (tt, (tt, shape))) (λ n. (tt, shape)) in
+      (four_more pc even, (tt, (tt, rest)))
   row_shape (Fence word) pc values valid has even f = (four_more pc even, tt)
   row_shape Ecall pc values valid has even f = refl
   row_shape Ebreak pc values valid has even f = (omega arith, tt)

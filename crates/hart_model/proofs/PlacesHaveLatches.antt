@@ -5,7 +5,7 @@ use Rattle.isa_model.specs.declared.latch.Latch.{Latch}
 use Rattle.isa_model.specs.declared.latch.Latch.TheVariants as latches
 use Rattle.isa_model.specs.LatchOrder.{IsLatch}
 use Rattle.hart_model.specs.declared.place.Place.{Place}
-use Rattle.hart_model.specs.declared.place.Place.TheVariants.{Reg, PortA, PortB, Res, Load, Store, Scr, Zero, SlotWord, DataWord}
+use Rattle.hart_model.specs.declared.place.Place.TheVariants.{Reg, PortA, PortB, Res, Load, Store, Scr, Mul, Zero, SlotWord, DataWord}
 use Rattle.hart_model.specs.Cells.{zero_address, index_in, data_place_of, slot_place_of, latch_of, place_of}
 use Rattle.hart_model.specs.Context.{ContextState, slot_len, slot_address}
 use Rattle.hart_model.specs.HartState.{bases_of}
@@ -45,6 +45,7 @@ by_latch held Res valid has = refl
 by_latch held Load valid has = refl
 by_latch held Store valid has = refl
 by_latch held Scr valid has = refl
+by_latch held Mul valid has = refl
 by_latch held Zero valid has = refl
 
 -- what is found among words is at its address
@@ -118,6 +119,7 @@ by_place held latches.Res p is_latch found = let is : Res ≡ p = cc in subst (�
 by_place held latches.Load p is_latch found = let is : Load ≡ p = cc in subst (λ (q : Place). (latch_of (bases_of held) q ≡ latches.Load) × HasPlace held q) is (refl, tt)
 by_place held latches.Store p is_latch found = let is : Store ≡ p = cc in subst (λ (q : Place). (latch_of (bases_of held) q ≡ latches.Store) × HasPlace held q) is (refl, tt)
 by_place held latches.Scr p is_latch found = let is : Scr ≡ p = cc in subst (λ (q : Place). (latch_of (bases_of held) q ≡ latches.Scr) × HasPlace held q) is (refl, tt)
+by_place held latches.Mul p is_latch found = let is : Mul ≡ p = cc in subst (λ (q : Place). (latch_of (bases_of held) q ≡ latches.Mul) × HasPlace held q) is (refl, tt)
 
 pub places_have_latches : PlacesHaveLatches
 places_have_latches = record { place = by_latch; latch = by_place }

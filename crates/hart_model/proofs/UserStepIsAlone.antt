@@ -25,9 +25,9 @@ use Rattle.hart_model.proofs.EffectShapes.{IsRunWrite, IsPortWrite, AllTo, HasSh
 use Rattle.hart_model.proofs.UserWrites.{data_value, data_index, ListsHave, value_of_register, value_of_word, place_of_data, write_all, OnlyPorts, write_ports, ports_keep}
 
 -- an instruction of the run alone is what its effect says
-record Follows (T : Task) (s : AloneState) (e : Effect) (after : Executed) : Type 0 where
-  deed : Deed
-  is : after ≡ after_effect T deed e s
+pub record Follows (T : Task) (s : AloneState) (e : Effect) (after : Executed) : Type 0 where
+  pub deed : Deed
+  pub is : after ≡ after_effect T deed e s
 
 module _ (T : Task) (s : AloneState) where
   by_privilege : (privileged : Bool) (deed : Deed) (e : Effect)
@@ -44,7 +44,7 @@ module _ (T : Task) (s : AloneState) where
   by_word None = record { deed = RanDeed; is = refl }
   by_word (Some word) = by_instr (instr_of word)
 
-  instr_follows : Follows T s (alone_effect T s) (after_instr T s)
+  pub instr_follows : Follows T s (alone_effect T s) (after_instr T s)
   unfolding after_instr
   instr_follows = by_word (code_word_at T s.pc)
 
@@ -66,6 +66,7 @@ latch_values h c T v held task valid slot lists latches.Res inside = absurd insi
 latch_values h c T v held task valid slot lists latches.Load inside = absurd inside
 latch_values h c T v held task valid slot lists latches.Store inside = absurd inside
 latch_values h c T v held task valid slot lists latches.Scr inside = absurd inside
+latch_values h c T v held task valid slot lists latches.Mul inside = absurd inside
 
 module _ (s : AloneState) (h : HartState) (c : ContextState) (valid : IsValidTask (task_of c.body)) (at : IsAtRunAlone (task_of c.body) s h c)
     (none : interrupt_of h.csrs (is_fuel_used h.held) ≡ None) where

@@ -59,6 +59,7 @@ port_is_run T (latches.Mem at) port = absurd port
 port_is_run T latches.Load port = absurd port
 port_is_run T latches.Store port = absurd port
 port_is_run T latches.Scr port = absurd port
+port_is_run T latches.Mul port = absurd port
 
 ports_are_run : (T : Task) (ws : List Write) → AllTo IsPortWrite ws → AllTo (IsRunWrite T) ws
 ports_are_run T [] ports = tt
@@ -82,6 +83,7 @@ record SameCells (g f : HartState) : Type 0 where
   res : f.res ≡ g.res
   load : f.load ≡ g.load
   store : f.store ≡ g.store
+  mul : f.mul ≡ g.mul
   words : held_data f.held ≡ held_data g.held
 
 same_cell : (T : Task) (g f : HartState) (l : Latch) → SameCells g f → IsRunLatch T l → hart_cell f (run_place T l) ≡ hart_cell g (run_place T l)
@@ -93,6 +95,7 @@ same_cell T g f latches.Res same run = same.res
 same_cell T g f latches.Load same run = same.load
 same_cell T g f latches.Store same run = same.store
 same_cell T g f latches.Scr same run = absurd run
+same_cell T g f latches.Mul same run = same.mul
 same_cell T g f (latches.Mem at) same run = ap (λ (cs : List Cell). get_or cs (data_index T at) blank) same.words
 
 -- what follows the writes leaves the cells, and what is held with one more instruction
@@ -105,10 +108,10 @@ counted_data None = refl
 counted_data (Some c) = refl
 
 leaves_cells : (h g : HartState) (probes : List Probe) (next : Next) → LeavesCells g (hart_after h (after_user_writes (record { hart = with_next_count g; probes = probes }) next))
-leaves_cells h g probes (Goes pc) = record { cells = record { regs = refl; port_a = refl; port_b = refl; res = refl; load = refl; store = refl; words = counted_data g.held }; counts = refl }
-leaves_cells h g probes (Raises cause) = record { cells = record { regs = refl; port_a = refl; port_b = refl; res = refl; load = refl; store = refl; words = counted_data g.held }; counts = refl }
-leaves_cells h g probes Calls = record { cells = record { regs = refl; port_a = refl; port_b = refl; res = refl; load = refl; store = refl; words = counted_data g.held }; counts = refl }
-leaves_cells h g probes Returns = record { cells = record { regs = refl; port_a = refl; port_b = refl; res = refl; load = refl; store = refl; words = counted_data g.held }; counts = refl }
+leaves_cells h g probes (Goes pc) = record { cells = record { regs = refl; port_a = refl; port_b = refl; res = refl; load = refl; store = refl; mul = refl; words = counted_data g.held }; counts = refl }
+leaves_cells h g probes (Raises cause) = record { cells = record { regs = refl; port_a = refl; port_b = refl; res = refl; load = refl; store = refl; mul = refl; words = counted_data g.held }; counts = refl }
+leaves_cells h g probes Calls = record { cells = record { regs = refl; port_a = refl; port_b = refl; res = refl; load = refl; store = refl; mul = refl; words = counted_data g.held }; counts = refl }
+leaves_cells h g probes Returns = record { cells = record { regs = refl; port_a = refl; port_b = refl; res = refl; load = refl; store = refl; mul = refl; words = counted_data g.held }; counts = refl }
 
 leaves_probes : (a : HartAndProbes) (next : Next) → probes_of (after_user_writes a next) ≡ a.probes
 leaves_probes a (Goes pc) = refl

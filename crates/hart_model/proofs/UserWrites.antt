@@ -224,6 +224,8 @@ module _ (T : Task) (b : Bases) (valid : IsValidTask T)
       other_latch latches.Load x places.Load h c v refl (stays h c (hart_with_cell h places.Load x) held refl refl refl refl) refl (λ r. refl) (λ at. refl) lists
   write_one latches.Store x h c v run held lists =
       other_latch latches.Store x places.Store h c v refl (stays h c (hart_with_cell h places.Store x) held refl refl refl refl) refl (λ r. refl) (λ at. refl) lists
+  write_one latches.Mul x h c v run held lists =
+      other_latch latches.Mul x places.Mul h c v refl (stays h c (hart_with_cell h places.Mul x) held refl refl refl refl) refl (λ r. refl) (λ at. refl) lists
   write_one latches.Scr x h c v run held lists = absurd run
 
   -- later than later
@@ -283,6 +285,7 @@ write_port b tag (latches.Mem at) x ws h port rest = absurd port
 write_port b tag latches.Load x ws h port rest = absurd port
 write_port b tag latches.Store x ws h port rest = absurd port
 write_port b tag latches.Scr x ws h port rest = absurd port
+write_port b tag latches.Mul x ws h port rest = absurd port
 
 -- the writes of an instruction that faults, on the hart and alone
 pub write_ports : (b : Bases) (tag : Write → Tag) (ws : List Write) (h : HartState) → AllTo IsPortWrite ws → OnlyPorts h (after_writes (cell_writes b tag ws) h).hart
@@ -303,11 +306,13 @@ port_keeps T to latches.Res x v port inside = absurd inside
 port_keeps T to latches.Load x v port inside = absurd inside
 port_keeps T to latches.Store x v port inside = absurd inside
 port_keeps T to latches.Scr x v port inside = absurd inside
+port_keeps T to latches.Mul x v port inside = absurd inside
 port_keeps T (latches.Reg r) l x v port inside = absurd port
 port_keeps T (latches.Mem at) l x v port inside = absurd port
 port_keeps T latches.Load l x v port inside = absurd port
 port_keeps T latches.Store l x v port inside = absurd port
 port_keeps T latches.Scr l x v port inside = absurd port
+port_keeps T latches.Mul l x v port inside = absurd port
 
 pub ports_keep : (T : Task) (ws : List Write) (l : Latch) (v : Latch → ℕ) → AllTo IsPortWrite ws → IsTaskLatch T l → values_after ws v l ≡ v l
 ports_keep T [] l v ports inside = refl

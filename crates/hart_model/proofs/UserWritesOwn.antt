@@ -39,6 +39,7 @@ run_place T latches.Res = places.Res
 run_place T latches.Load = places.Load
 run_place T latches.Store = places.Store
 run_place T latches.Scr = places.Scr
+run_place T latches.Mul = places.Mul
 run_place T (latches.Mem at) = places.DataWord (data_index T at)
 
 place_of_run : (c : ContextState) (l : Latch) → IsValidTask (task_of c.body) → c.slot < 8 → IsRunLatch (task_of c.body) l
@@ -50,6 +51,7 @@ place_of_run c latches.Res valid slot run = refl
 place_of_run c latches.Load valid slot run = refl
 place_of_run c latches.Store valid slot run = refl
 place_of_run c latches.Scr valid slot run = refl
+place_of_run c latches.Mul valid slot run = refl
 place_of_run c (latches.Mem at) valid slot run = place_of_data c at valid slot run
 
 pub cell_of_run : (h : HartState) (c : ContextState) (T : Task) (l : Latch) → h.held ≡ Some c → task_of c.body ≡ T → IsValidTask T → c.slot < 8 → IsRunLatch T l
@@ -116,6 +118,7 @@ run_of_write T latches.Res write = tt
 run_of_write T latches.Load write = tt
 run_of_write T latches.Store write = tt
 run_of_write T latches.Scr write = write
+run_of_write T latches.Mul write = tt
 run_of_write T (latches.Mem at) write = write
 
 -- the cell of a latch after writes of latches, each with its tag
@@ -148,6 +151,7 @@ module _ (T : Task) (b : Bases) (valid : IsValidTask T)
   place_of_write latches.Load write = refl
   place_of_write latches.Store write = refl
   place_of_write latches.Scr write = refl
+  place_of_write latches.Mul write = refl
   place_of_write (latches.Mem at) write = data_place at write
 
   -- a write at its place
@@ -258,6 +262,7 @@ module _ (T : Task) (b : Bases) (valid : IsValidTask T) (base : b.data_at ≡ T.
   latch_of_run latches.Load write = refl
   latch_of_run latches.Store write = refl
   latch_of_run latches.Scr write = refl
+  latch_of_run latches.Mul write = refl
   latch_of_run (latches.Mem at) write =
       let d = data_at T at write in
       let even = valid.data_aligned in

@@ -173,11 +173,11 @@ store_answers OutLeft cell None = λ no. no
 store_answers OutLeft cell (Some c) = λ no. no
 
 -- a port stands at a multiple of 4
-port_is_aligned : (at : ℕ) (port : Port) → port_at at ≡ Some port → at % 4 ≡ 0
+pub port_is_aligned : (at : ℕ) (port : Port) → port_at at ≡ Some port → at % 4 ≡ 0
 port_is_aligned at port found = grind arith
 
 -- a target that reaches a port is the port's address
-place_or_port_is : (place : Option Place) (found : Option Port) (port : Port) → place_or_port place found ≡ AtPort port → found ≡ Some port
+pub place_or_port_is : (place : Option Place) (found : Option Port) (port : Port) → place_or_port place found ≡ AtPort port → found ≡ Some port
 place_or_port_is (Some place) found port e = cc
 place_or_port_is None None port e = cc
 place_or_port_is None (Some other) port e = cc

@@ -2,7 +2,7 @@
 use Rattle.std.proofs.Common.{◌≡◌, ℕ, zero, suc, ◌+◌, ◌≤◌, inl, inr, refl, sym, subst, arith, add-one, Bool, true, false, ◌&&◌, ◌==◌, nat_le}
 use Rattle.std.proofs.lemmas.Bool.{and_parts, and_from, eqb-true, eq-eqb, leb-true, le-leb, false_from_ne_true}
 use Rattle.isa_model.specs.declared.latch.Latch.{Latch}
-use Rattle.isa_model.specs.declared.latch.Latch.TheVariants.{Reg, PortA, PortB, Res, Load, Store, Scr, Mem}
+use Rattle.isa_model.specs.declared.latch.Latch.TheVariants.{Reg, PortA, PortB, Res, Load, Store, Scr, Mul, Mem}
 use Rattle.isa_model.specs.LatchOrder.{same_latch}
 use Rattle.hart_model.specs.declared.tag.Tag.{Tag}
 use Rattle.hart_model.specs.declared.tag.Tag.TheVariants.{Public, Of, Many}
@@ -23,6 +23,7 @@ same_latch-refl Res = refl
 same_latch-refl Load = refl
 same_latch-refl Store = refl
 same_latch-refl Scr = refl
+same_latch-refl Mul = refl
 
 pub same_latch-true : (a b : Latch) → same_latch a b ≡ true → a ≡ b
 same_latch-true (Reg a) (Reg b) h = let e = eqb-true a b h in cc
@@ -33,6 +34,7 @@ same_latch-true Res Res h = refl
 same_latch-true Load Load h = refl
 same_latch-true Store Store h = refl
 same_latch-true Scr Scr h = refl
+same_latch-true Mul Mul h = refl
 same_latch-true _ _ h = cc
 
 -- the facts of the test of a step

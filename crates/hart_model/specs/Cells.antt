@@ -3,7 +3,7 @@ use Rattle.std.specs.Prelude.{ℕ, ◌+◌, ◌-◌, ◌*◌, ◌/◌, ◌%◌, 
 use Rattle.isa_model.specs.declared.latch.Latch.{Latch}
 use Rattle.isa_model.specs.declared.latch.Latch.TheVariants as latches
 use Rattle.hart_model.specs.declared.place.Place.{Place}
-use Rattle.hart_model.specs.declared.place.Place.TheVariants.{Reg, PortA, PortB, Res, Load, Store, Scr, Zero, SlotWord, DataWord}
+use Rattle.hart_model.specs.declared.place.Place.TheVariants.{Reg, PortA, PortB, Res, Load, Store, Scr, Mul, Zero, SlotWord, DataWord}
 use Rattle.hart_model.specs.declared.tag.Cell.{Cell}
 use Rattle.hart_model.specs.declared.tag.Tag.TheVariants.{Public}
 
@@ -15,6 +15,7 @@ pub record Cells (A : Type 0) : Type 0 where
   pub load : A
   pub store : A
   pub scr : A
+  pub mul : A
   pub zero : A
   pub slot : List A
   pub data_words : List A
@@ -29,6 +30,7 @@ module _ {A : Type 0} where
   cell_at none c Load = c.load
   cell_at none c Store = c.store
   cell_at none c Scr = c.scr
+  cell_at none c Mul = c.mul
   cell_at none c Zero = c.zero
   cell_at none c (SlotWord i) = get_or c.slot i none
   cell_at none c (DataWord i) = get_or c.data_words i none
@@ -42,6 +44,7 @@ module _ {A : Type 0} where
   with_cell c Load x = record c { load = x }
   with_cell c Store x = record c { store = x }
   with_cell c Scr x = record c { scr = x }
+  with_cell c Mul x = record c { mul = x }
   with_cell c Zero x = record c { zero = x }
   with_cell c (SlotWord i) x = record c { slot = set c.slot i x }
   with_cell c (DataWord i) x = record c { data_words = set c.data_words i x }
@@ -66,6 +69,7 @@ latch_of b Res = latches.Res
 latch_of b Load = latches.Load
 latch_of b Store = latches.Store
 latch_of b Scr = latches.Scr
+latch_of b Mul = latches.Mul
 latch_of b Zero = latches.Mem zero_address
 latch_of b (SlotWord i) = latches.Mem (b.slot_at + 4 * i)
 latch_of b (DataWord i) = latches.Mem (b.data_at + 4 * i)
@@ -91,6 +95,7 @@ place_of b latches.Res = Some Res
 place_of b latches.Load = Some Load
 place_of b latches.Store = Some Store
 place_of b latches.Scr = Some Scr
+place_of b latches.Mul = Some Mul
 place_of b (latches.Mem at) =
     if at == zero_address then Some Zero
     else slot_place_of (index_in b.slot_at b.slot_len at) (data_place_of (index_in b.data_at b.data_len at))

@@ -3,7 +3,7 @@
 use Rattle.std.specs.Prelude.{ℕ, zero, List, [], length, set, replicate, true, Option, Some, None, option_map}
 use Rattle.isa_model.specs.declared.latch.Latch.{Latch}
 use Rattle.hart_model.specs.declared.place.Place.{Place}
-use Rattle.hart_model.specs.declared.place.Place.TheVariants.{Reg, PortA, PortB, Res, Load, Store, Scr, Zero, SlotWord, DataWord}
+use Rattle.hart_model.specs.declared.place.Place.TheVariants.{Reg, PortA, PortB, Res, Load, Store, Scr, Mul, Zero, SlotWord, DataWord}
 use Rattle.hart_model.specs.declared.tag.Cell.{Cell}
 use Rattle.hart_model.specs.Cells.{Cells, Bases, blank, cell_at, place_of}
 use Rattle.hart_model.specs.Csrs.{CsrFile, boot_csrs}
@@ -18,6 +18,7 @@ pub record HartState : Type 0 where
   pub res : Cell
   pub load : Cell
   pub store : Cell
+  pub mul : Cell
   pub zero_word : Cell
   pub csrs : CsrFile
   pub pc : ℕ
@@ -32,6 +33,7 @@ boot_hart number take = record {
   res = blank;
   load = blank;
   store = blank;
+  mul = blank;
   zero_word = blank;
   csrs = boot_csrs number;
   pc = take;
@@ -61,6 +63,7 @@ cells_of h = record {
   load = h.load;
   store = h.store;
   scr = h.csrs.mscratch;
+  mul = h.mul;
   zero = h.zero_word;
   slot = held_words h.held;
   data_words = held_data h.held;
@@ -103,6 +106,7 @@ hart_with_cell h Res cell = record h { res = cell }
 hart_with_cell h Load cell = record h { load = cell }
 hart_with_cell h Store cell = record h { store = cell }
 hart_with_cell h Scr cell = record h { csrs = record h.csrs { mscratch = cell } }
+hart_with_cell h Mul cell = record h { mul = cell }
 hart_with_cell h Zero cell = record h { zero_word = cell }
 hart_with_cell h (SlotWord i) cell = record h { held = held_with_word i cell h.held }
 hart_with_cell h (DataWord i) cell = record h { held = held_with_data i cell h.held }

@@ -57,8 +57,8 @@ alone_effect_of_word T s (Some word) = alone_effect_of_instr T s (instr_of word)
 abbrev pub alone_effect : Task → AloneState → Effect
 alone_effect T s = alone_effect_of_word T s (code_word_at T s.pc)
 
--- Both go on: the hart stands where the run alone does after the instruction. Only registers, ports, Res, Load, Store and data words
--- have changed, and the count is one more.
+-- Both go on: the hart stands where the run alone does after the instruction. Only registers, ports, Res, Load, Store, Mul and data
+-- words have changed, and the count is one more.
 pub record GoesOnAlone (T : Task) (s : AloneState) (h : HartState) (c : ContextState) : Type 0 where
   pub hart : HartState
   pub context : ContextState

@@ -12,6 +12,7 @@ pub enum Place {
     Load,
     Store,
     Scr,
+    Mul,
     /// The hart's word that is always 0.
     Zero,
     SlotWord(u32),

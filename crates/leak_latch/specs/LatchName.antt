@@ -1,7 +1,7 @@
 -- The names of latches in texts (this project's own).
 use Rattle.std.specs.Prelude.{ℕ, ◌/◌, ◌%◌, ◌^◌, List, [], ◌∷◌, ◌++◌, map, codes, decimal, slice_index}
 use Rattle.isa_model.specs.declared.latch.Latch.{Latch}
-use Rattle.isa_model.specs.declared.latch.Latch.TheVariants.{Reg, PortA, PortB, Res, Load, Store, Scr, Mem}
+use Rattle.isa_model.specs.declared.latch.Latch.TheVariants.{Reg, PortA, PortB, Res, Load, Store, Scr, Mul, Mem}
 
 -- the lower case hexadecimal digit of a number below 16
 abbrev pub hex_digit_of : ℕ → ℕ
@@ -20,4 +20,5 @@ latch_name Res = codes "res"
 latch_name Load = codes "load"
 latch_name Store = codes "store"
 latch_name Scr = codes "scr"
+latch_name Mul = codes "mul"
 latch_name (Mem at) = codes "m" ++ hex_word_of at

@@ -11,6 +11,3 @@ pub use hart_model::{Cell, Mode, Probe, Side, Tag, Why};
 pub use isa_model::Latch;
 pub use order::{latch_before, latch_kind};
 pub use text::latch_text;
-
-#[cfg(test)]
-mod tests;

@@ -25,20 +25,21 @@ fn rank(latch: Latch) -> u64
         Latch::Load => 35,
         Latch::Store => 36,
         Latch::Scr => 37,
-        Latch::Mem(at) => 38 + u64::from(at),
+        Latch::Mul => 38,
+        Latch::Mem(at) => 39 + u64::from(at),
     }
 }
 
 /// Whether a latch comes before another in the order of latches (this project's own): registers by number, port A, port B, the
-/// result, the last load, the last store, the scratch CSR, memory by address.
+/// result, the last load, the last store, the scratch CSR, the multiplier, memory by address.
 pub fn latch_before(a: Latch, b: Latch) -> bool
     ensures order { result ≡ is_before a b }
 {
     rank(a) < rank(b)
 }
 
-/// The kind of a latch, by which a tally counts (this project's own): 0 for a register, 1 and 2 for ports A and B, 3 for the result,
-/// 4 for the last load, 5 for the last store, 6 for the scratch CSR, 7 for memory.
+/// The kind of a latch, by which a tally counts (this project's own): 0 for a register, 1 and 2 for ports A and B, 3 for the result
+/// and for the multiplier, 4 for the last load, 5 for the last store, 6 for the scratch CSR, 7 for memory.
 pub fn latch_kind(latch: Latch) -> u32
     ensures kind { result ≡ kind_of_latch latch }
     ensures small { result < 8 }
@@ -47,7 +48,7 @@ pub fn latch_kind(latch: Latch) -> u32
         Latch::Reg(_) => 0,
         Latch::PortA => 1,
         Latch::PortB => 2,
-        Latch::Res => 3,
+        Latch::Res | Latch::Mul => 3,
         Latch::Load => 4,
         Latch::Store => 5,
         Latch::Scr => 6,

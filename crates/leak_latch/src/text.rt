@@ -44,8 +44,8 @@ fn register_text(number: u8, out: &mut Vec<u8>) -> Result<(), AllocError>
     }
 }
 
-/// Appends the name of a latch: `x0` to `x31`, `portA`, `portB`, `res`, `load`, `store`, `scr`, or `m` and the address of the word
-/// in eight lower case hexadecimal digits (this project's own). `AllocError` is want of memory, and leaves the items as they were.
+/// Appends the name of a latch: `x0` to `x31`, `portA`, `portB`, `res`, `load`, `store`, `scr`, `mul`, or `m` and the address of
+/// the word in eight lower case hexadecimal digits (this project's own). `AllocError` is want of memory, and leaves the items as they were.
 pub fn latch_text(latch: Latch, out: &mut Vec<u8>) -> Result<(), AllocError>
     ensures ok { OnOk result (out.new.items ≡ out.old.items ++ latch_name latch) }
     ensures err { OnErr result (out.new.items ≡ out.old.items) }
@@ -58,6 +58,7 @@ pub fn latch_text(latch: Latch, out: &mut Vec<u8>) -> Result<(), AllocError>
         Latch::Load => out.extend_from_slice(b"load"),
         Latch::Store => out.extend_from_slice(b"store"),
         Latch::Scr => out.extend_from_slice(b"scr"),
+        Latch::Mul => out.extend_from_slice(b"mul"),
         Latch::Mem(at) => out.extend_from_slice(&memory_name(at)),
     }
 }

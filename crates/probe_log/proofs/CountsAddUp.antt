@@ -2,7 +2,7 @@
 use Rattle.std.proofs.Common.{◌≡◌, ℕ, ◌+◌, ◌==◌, Bool, cond, List, [], ◌∷◌, length, sum, count_by, refl, arith, subst, sym}
 use Rattle.std.proofs.lemmas.List.Sums.{sum_by-cons}
 use Rattle.isa_model.specs.declared.latch.Latch.{Latch}
-use Rattle.isa_model.specs.declared.latch.Latch.TheVariants.{Reg, PortA, PortB, Res, Load, Store, Scr, Mem}
+use Rattle.isa_model.specs.declared.latch.Latch.TheVariants.{Reg, PortA, PortB, Res, Load, Store, Scr, Mul, Mem}
 use Rattle.hart_model.specs.declared.probe.Why.{Why}
 use Rattle.hart_model.specs.declared.probe.Why.TheVariants as whys
 use Rattle.hart_model.specs.declared.probe.Probe.{Probe}
@@ -51,6 +51,7 @@ kinds_of_one Res = refl
 kinds_of_one Load = refl
 kinds_of_one Store = refl
 kinds_of_one Scr = refl
+kinds_of_one Mul = refl
 kinds_of_one (Mem at) = refl
 
 kinds_add_up : (log : List Probe) → sum (counts_of log).latches ≡ length log

@@ -5,8 +5,8 @@ use Rattle.hart_model.specs.declared.probe.Why.TheVariants as whys
 use Rattle.hart_model.specs.declared.probe.Probe.{Probe}
 use Rattle.hart_model.specs.Probes.{kind_of_latch}
 
--- How many entries have each why, and how many are of each kind of latch, in the order of the kinds: registers, port A, port B, the
--- result, loads, stores, the scratch CSR, memory.
+-- How many entries have each why, and how many are of each kind of latch, in the order of the kinds: registers, port A, port B,
+-- results (of the arithmetic unit and of the multiplier), loads, stores, the scratch CSR, memory.
 pub record Counts : Type 0 where
   pub public : ℕ
   pub value : ℕ

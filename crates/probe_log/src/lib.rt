@@ -12,6 +12,3 @@ pub use hart_model::{Probe, Why};
 pub use isa_model::Latch;
 pub use keeper::Keeper;
 pub use tally::Tally;
-
-#[cfg(test)]
-mod tests;

@@ -96,8 +96,8 @@ impl Tally {
         self.unexplained
     }
 
-    /// How many are of each kind of latch: registers, port A, port B, the result, the last load, the last store, the scratch CSR,
-    /// memory.
+    /// How many are of each kind of latch: registers, port A, port B, results (of the arithmetic unit and of the multiplier), the
+    /// last load, the last store, the scratch CSR, memory.
     pub fn latches(&self) -> [u64; 8]
         ensures counts { result ≡ self.now.latches }
     {
