@@ -5,7 +5,7 @@ use Rattle.isa_model.specs.declared.ends.End.{End}
 use Rattle.hart_model.specs.declared.tag.Cell.{Cell}
 use Rattle.hart_model.specs.Context.{BodyState, ContextState, DoneState, admit_of, done_of}
 use Rattle.core_model.specs.Board.{BoardState, OutEntry, out_entry, out_without, with_action, take_from, give_ready_of, give_done_of, with_next_admitted}
-use Rattle.core_model.specs.Invariant.{home_count, slot_count}
+use Rattle.core_model.specs.Soundness.{home_count, slot_count}
 use Rattle.core_model.proofs.Lists.{bit, count-cons, count-push, count-split}
 
 -- the tests that the counts are by

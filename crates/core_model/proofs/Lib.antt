@@ -1,7 +1,7 @@
 -- Actions of a board, and tasks at boot.
 pub mod Lists
 pub mod Counts
-pub mod Moves
+pub mod Conservation
 -- Examples, and runs as events.
 mod TryBoard
 mod TryKernelWords
@@ -11,5 +11,5 @@ mod TryOrders
 mod TryExplained
 mod TryLowEquivalence
 mod TryLastPc
-mod TryInvariant
+mod TrySoundness
 mod Runs

@@ -6,7 +6,7 @@ use Rattle.core_model.specs.KernelWords.{address_of, save_words, restore_words, 
 -- the save part, what stands between, the restore part, and the last two
 abbrev save : List ℕ
 save =
-    0x00000033 ∷ 0x340292f3 ∷ 0x10002023 ∷ 0x10002003 ∷ 0x0002a223 ∷ 0x0012a223 ∷ 0x00000093 ∷ 0x0002a423
+    0x02000033 ∷ 0x340292f3 ∷ 0x10002023 ∷ 0x10002003 ∷ 0x0002a223 ∷ 0x0012a223 ∷ 0x00000093 ∷ 0x0002a423
     ∷ 0x0022a423 ∷ 0x00000113 ∷ 0x0002a623 ∷ 0x0032a623 ∷ 0x00000193 ∷ 0x0002a823 ∷ 0x0042a823 ∷ 0x00000213
     ∷ 0x0002ac23 ∷ 0x0062ac23 ∷ 0x00000313 ∷ 0x0002ae23 ∷ 0x0072ae23 ∷ 0x00000393 ∷ 0x0202a023 ∷ 0x0282a023
     ∷ 0x00000413 ∷ 0x0202a223 ∷ 0x0292a223 ∷ 0x00000493 ∷ 0x0202a423 ∷ 0x02a2a423 ∷ 0x00000513 ∷ 0x0202a623
@@ -61,7 +61,7 @@ all_words = refl
 how_many : length kernel_words ≡ 278
 how_many = refl
 
-first_word : get_or kernel_words 0 0 ≡ 0x00000033
+first_word : get_or kernel_words 0 0 ≡ 0x02000033
 first_word = refl
 
 save_part : save_words ≡ save

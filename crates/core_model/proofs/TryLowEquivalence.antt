@@ -44,8 +44,7 @@ tasks_alike = record {
   fuel = refl;
   out_max = refl;
   tape_length = refl;
-  control = refl;
-  last_pc = refl;
+  course = record { control = refl; last_pc = refl };
 }
 
 bundles_alike : AreAlike (loaded 7) (loaded 9)

@@ -30,7 +30,7 @@ calm_order : calm_run.board.order ≡ replicate 5 0
 unfolding core_from fine_from result_of steps_to_action user_step machine_step is_allowed_by csr_cell with_csr
 calm_order = refl
 
-calm_entries : length calm_run.log ≡ 1677
+calm_entries : length calm_run.log ≡ 1679
 unfolding core_from fine_from result_of steps_to_action user_step machine_step is_allowed_by csr_cell with_csr
 calm_entries = refl
 

@@ -79,7 +79,7 @@ how_it_ends : forty_two.board.ended ≡ record { task_no = 0; count = 5; output 
 unfolding run_to user_step machine_step is_allowed_by csr_cell with_csr
 how_it_ends = refl
 
-how_many_entries : length forty_two.log ≡ 1677
+how_many_entries : length forty_two.log ≡ 1679
 unfolding run_to user_step machine_step is_allowed_by csr_cell with_csr
 how_many_entries = refl
 
@@ -93,15 +93,15 @@ why_number Unexplained = 3
 abbrev count_whys : List Probe → List ℕ
 count_whys log = map (λ n. count_by (λ (p : Probe). why_number p.why == n) log) (0 ∷ 1 ∷ 2 ∷ 3 ∷ [])
 
-entries_by_why : count_whys forty_two.log ≡ 1600 ∷ 74 ∷ 3 ∷ 0 ∷ []
+entries_by_why : count_whys forty_two.log ≡ 1602 ∷ 74 ∷ 3 ∷ 0 ∷ []
 unfolding run_to user_step machine_step is_allowed_by csr_cell with_csr why_number
 entries_by_why = refl
 
--- by latch: registers, PortA, PortB, Res, Load, Store, Scr, memory
+-- by kind of latch: registers, PortA, PortB, Res and Mul, Load, Store, Scr, memory
 abbrev count_latches : List Probe → List ℕ
 count_latches log = map (λ n. count_by (λ (p : Probe). kind_of_latch p.latch == n) log) (0 ∷ 1 ∷ 2 ∷ 3 ∷ 4 ∷ 5 ∷ 6 ∷ 7 ∷ [])
 
-entries_by_latch : count_latches forty_two.log ≡ 165 ∷ 428 ∷ 181 ∷ 409 ∷ 150 ∷ 171 ∷ 6 ∷ 167 ∷ []
+entries_by_latch : count_latches forty_two.log ≡ 165 ∷ 428 ∷ 181 ∷ 411 ∷ 150 ∷ 171 ∷ 6 ∷ 167 ∷ []
 unfolding run_to user_step machine_step is_allowed_by csr_cell with_csr
 entries_by_latch = refl
 

@@ -53,6 +53,7 @@ pub record AreHartsAlike (h g : HartState) : Type 0 where
   pub res : AreCellsAlike h.res g.res
   pub load : AreCellsAlike h.load g.load
   pub store : AreCellsAlike h.store g.store
+  pub mul : AreCellsAlike h.mul g.mul
   pub zero_word : AreCellsAlike h.zero_word g.zero_word
   pub csrs : AreCsrsAlike h.csrs g.csrs
   pub pc : h.pc ≡ g.pc

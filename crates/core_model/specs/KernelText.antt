@@ -4,7 +4,7 @@ use Rattle.isa_model.specs.declared.instr.Instr.{Instr}
 use Rattle.isa_model.specs.declared.instr.Instr.TheVariants.{Lui, Jal, Load, Store, AluImm, AluReg, Mret, Csr}
 use Rattle.isa_model.specs.declared.instr.Cmp.{Cmp}
 use Rattle.isa_model.specs.declared.instr.Cmp.TheVariants.{Beq, Blt}
-use Rattle.isa_model.specs.declared.instr.Alu.TheVariants.{Add}
+use Rattle.isa_model.specs.declared.instr.Alu.TheVariants.{Add, Mul}
 use Rattle.isa_model.specs.declared.instr.LoadKind.TheVariants as loads
 use Rattle.isa_model.specs.declared.instr.StoreKind.TheVariants as stores
 use Rattle.isa_model.specs.declared.instr.CsrOp.TheVariants.{Rw, Rs}
@@ -41,8 +41,8 @@ abbrev pub x7 : ℕ
 x7 = 7
 
 -- the mnemonics, with their operands in the assembler's order: offset(base) is offset, base
-abbrev pub add : ℕ → ℕ → ℕ → Line
-add rd rs1 rs2 = Does (AluReg Add rd rs1 rs2)
+abbrev pub mul : ℕ → ℕ → ℕ → Line
+mul rd rs1 rs2 = Does (AluReg Mul rd rs1 rs2)
 
 abbrev pub addi : ℕ → ℕ → ℕ → Line
 addi rd rs1 imm = Does (AluImm Add rd rs1 (pos imm))
@@ -114,12 +114,12 @@ clear_load = lw x0 zero_address x0
 abbrev pub save_register : ℕ → List Line
 save_register i = sw x0 (saved i) x5 ∷ sw i (saved i) x5 ∷ addi i x0 0 ∷ []
 
--- The first instruction clears the ports before x5 is read. x5 is kept in mscratch meanwhile, which has the slot's address again at
--- the end.
+-- The first instruction clears the ports and the multiplier before x5 is read. x5 is kept in mscratch meanwhile, which has the slot's
+-- address again at the end.
 abbrev pub save_lines : List Line
 save_lines =
     At Entry
-    ∷ add x0 x0 x0
+    ∷ mul x0 x0 x0
     ∷ csrrw x5 mscratch x5
     ∷ clear_store
     ∷ clear_load

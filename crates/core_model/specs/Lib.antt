@@ -10,7 +10,9 @@ pub mod Core
 pub mod Orders
 pub mod Explained
 pub mod LowEquivalence
-pub mod Invariant
+pub mod Security
+pub mod Places
+pub mod Soundness
 pub mod AlikeHarts
 pub mod Routines
-pub mod Moves
+pub mod Conservation

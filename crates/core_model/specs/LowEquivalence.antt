@@ -1,16 +1,14 @@
 -- Loaded bundles that are alike in all that is public, and logs that agree in it (this project's own).
 use Rattle.std.specs.Prelude.{◌≡◌, ⊤, List, [], ◌∷◌, length}
 use Rattle.isa_model.specs.declared.task.Task.{Task}
-use Rattle.isa_model.specs.Alone.{last_of}
-use Rattle.isa_model.specs.Control.{control_of}
+use Rattle.isa_model.specs.Course.{TakeOneCourse}
 use Rattle.hart_model.specs.declared.probe.Probe.{Probe}
 use Rattle.hart_model.specs.declared.probe.Why.{Why}
 use Rattle.hart_model.specs.declared.probe.Why.TheVariants as whys
 use Rattle.hart_model.specs.declared.probe.Side.TheVariants.{Was, Now}
 use Rattle.core_model.specs.declared.loaded.Loaded.{Loaded}
 
--- Two tasks are alike: the same places, code, data length, fuel and output limit, tapes of one length, one control, and one pc at which
--- their runs alone end. No item of a control has where the last instruction goes on to, and a task whose fuel is used is saved there.
+-- Two tasks are alike: the same places, code, data length, fuel and output limit, tapes of one length, and runs alone of one course.
 pub record AreTasksAlike (a b : Task) : Type 0 where
   pub code_at : a.code_at ≡ b.code_at
   pub data_at : a.data_at ≡ b.data_at
@@ -19,8 +17,7 @@ pub record AreTasksAlike (a b : Task) : Type 0 where
   pub fuel : a.fuel ≡ b.fuel
   pub out_max : a.out_max ≡ b.out_max
   pub tape_length : length a.tape ≡ length b.tape
-  pub control : control_of a ≡ control_of b
-  pub last_pc : (last_of a).pc ≡ (last_of b).pc
+  pub course : TakeOneCourse a b
 
 -- as many on both sides, and related place by place
 abbrev pub ArePairwise : {A : Type 0} → (A → A → Type 0) → List A → List A → Type 0

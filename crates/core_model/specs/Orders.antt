@@ -97,7 +97,7 @@ pub record CoarseState : Type 0 where
 abbrev pub boot_coarse : Loaded → KernelCodeState → CoarseState
 boot_coarse loaded kernel = record { core = boot_core loaded kernel; paces = replicate loaded.harts boot_pace }
 
--- no hart comes to a queue action after more steps
+-- The definition looks no further than this; no legal entry of an order needs more, which is a law of `order_laws`.
 abbrev pub max_steps : ℕ
 max_steps = 5000
 

@@ -25,7 +25,7 @@ use Rattle.hart_model.specs.UserStep.{user_step}
 use Rattle.hart_model.specs.MachineStep.{Target, AtPort, target_of, kernel_address, kernel_word_at}
 use Rattle.hart_model.specs.HartStep.{hart_step}
 use Rattle.core_model.specs.Explained.{IsExplained}
-use Rattle.core_model.specs.Invariant.{IsOwn, IsHartSound, IsUserCase, IsReadyCase}
+use Rattle.core_model.specs.Soundness.{IsOwn, IsHartSound, IsUserCase, IsReadyCase}
 use Rattle.core_model.specs.LowEquivalence.{AgreePublicly}
 use Rattle.core_model.specs.AlikeHarts.{AreHartsAlike}
 

@@ -2,7 +2,7 @@
 
 ghost use Rattle.core_model.specs.Events.{CountsAreLengths};
 ghost use Rattle.core_model.specs.Loaded.{TasksAreApart};
-ghost use Rattle.core_model.specs.Moves.{ActionsMove, TasksBeginOwn};
+ghost use Rattle.core_model.specs.Conservation.{ActionsConserve, TasksBeginOwn};
 
 /// Runs stand for as many events, and for as many entries of an order, as the sum of their times says.
 pub fn counts_are_lengths()
@@ -16,8 +16,8 @@ pub fn tasks_are_apart()
 
 /// Queue actions move tasks and slots from place to place, and copy none: after a take or a give each task is in as many places of the
 /// board as before, and no slot in more.
-pub fn actions_move()
-    ensures law { ActionsMove }
+pub fn actions_conserve()
+    ensures law { ActionsConserve }
 {}
 
 /// At boot each task has its own code, tape and limits.

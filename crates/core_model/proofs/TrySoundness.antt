@@ -8,7 +8,7 @@ use Rattle.isa_model.specs.declared.latch.Latch.TheVariants as latches
 use Rattle.isa_model.specs.Alone.{alone_at}
 use Rattle.isa_model.specs.AloneValue.{alone_value}
 use Rattle.hart_model.specs.declared.place.Place.{Place}
-use Rattle.hart_model.specs.declared.place.Place.TheVariants.{Reg, PortA, PortB, Res, Load, Store, Scr, Zero, SlotWord, DataWord}
+use Rattle.hart_model.specs.declared.place.Place.TheVariants.{Reg, PortA, PortB, Res, Load, Store, Scr, Mul, Zero, SlotWord, DataWord}
 use Rattle.hart_model.specs.declared.tag.Cell.{Cell}
 use Rattle.hart_model.specs.Cells.{blank}
 use Rattle.hart_model.specs.Csrs.{public}
@@ -16,7 +16,7 @@ use Rattle.hart_model.specs.Context.{ContextState, StandsForTask, fresh_body, fr
 use Rattle.hart_model.specs.HartState.{HartState, boot_hart, hart_cell}
 use Rattle.core_model.specs.KernelWords.{kernel_code}
 use Rattle.core_model.specs.Core.{CoreState, boot_core}
-use Rattle.core_model.specs.Invariant.{IsTruthful, IsOwn, IsBodyCase, HasBounds, IsReadyCase, IsHartSound, IsBoardSound, IsCoreSound, home_count, slot_count, entries_held, mstatus_in}
+use Rattle.core_model.specs.Soundness.{IsTruthful, IsOwn, IsBodyCase, HasBounds, IsReadyCase, IsHartSound, IsBoardSound, IsCoreSound, home_count, slot_count, entries_held, mstatus_in}
 use Rattle.core_model.proofs.TryCore.{task}
 use Rattle.core_model.proofs.TryOrders.{calm}
 
@@ -102,6 +102,7 @@ cell_blank Res = refl
 cell_blank Load = refl
 cell_blank Store = refl
 cell_blank Scr = refl
+cell_blank Mul = refl
 cell_blank Zero = refl
 cell_blank (SlotWord i) = refl
 cell_blank (DataWord i) = refl

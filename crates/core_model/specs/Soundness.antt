@@ -92,6 +92,7 @@ pub record IsUserCase (tasks : List Task) (h : HartState) (c : ContextState) : T
   pub res : IsOwnOrPublic c.body.task_no (task_of c.body) c.body.count latches.Res h.res
   pub load : IsOwnOrPublic c.body.task_no (task_of c.body) c.body.count latches.Load h.load
   pub store : IsOwnOrPublic c.body.task_no (task_of c.body) c.body.count latches.Store h.store
+  pub mul : IsOwnOrPublic c.body.task_no (task_of c.body) c.body.count latches.Mul h.mul
   pub scratch : h.csrs.mscratch ≡ public (slot_address c.slot)
   pub bound_registers : h.csrs.pmp.addrs ≡ bounds_of (task_of c.body)
   pub words : length c.words ≡ slot_len

@@ -3,11 +3,11 @@ use Rattle.std.proofs.Common.{◌≡◌, ℕ, zero, suc, ◌+◌, List, [], ◌�
 use Rattle.isa_model.specs.declared.task.Task.{Task}
 use Rattle.hart_model.specs.Context.{fresh_body}
 use Rattle.core_model.specs.Core.{bodies_from}
-use Rattle.core_model.specs.Moves.{ActionsMove, TasksBeginOwn}
+use Rattle.core_model.specs.Conservation.{ActionsConserve, TasksBeginOwn}
 use Rattle.core_model.proofs.Counts.{homes-take, slots-take, homes-give_ready, slots-give_ready, homes-give_done, slots-give_done}
 
-pub actions-move : ActionsMove
-actions-move = record {
+pub actions-conserve : ActionsConserve
+actions-conserve = record {
   takes = λ b hart. record {
     tasks = λ t. homes-take t hart b b.ready refl;
     slots = λ s. slots-take s hart b b.ready refl;
