@@ -6,8 +6,8 @@ ghost use Rattle.core_model.specs.KernelText.{saved, saved_bound, registers_but_
 use crate::label::Label;
 use crate::line::Line;
 use crate::mnemonics::{
-    MCAUSE, MEPC, MSCRATCH, PMPADDR0, X0, X5, X6, X7, add, addi, at, beq, blt, clear_load,
-    clear_store, csrrs, csrrw, jal, lui, lw, mret, port, sw,
+    MCAUSE, MEPC, MSCRATCH, PMPADDR0, X0, X5, X6, X7, addi, at, beq, blt, clear_load, clear_store,
+    csrrs, csrrw, jal, lui, lw, mret, mul, port, sw,
 };
 use crate::text::Text;
 use hart_model::Port;
@@ -56,14 +56,14 @@ fn append_saves(text: &mut Text) -> Result<(), AllocError>
     Ok(())
 }
 
-/// The save part. The first instruction clears the operand ports before x5 is read. x5 is kept in mscratch meanwhile, which has the
-/// slot's address again at the end.
+/// The save part. The first instruction clears the operand ports and the multiplier before x5 is read. x5 is kept in mscratch
+/// meanwhile, which has the slot's address again at the end.
 pub fn append_save(text: &mut Text) -> Result<(), AllocError>
     ensures lines { OnOk result (text.new ≡ text.old ++ save_lines) }
 {
     text.append([
         at(Label::Entry),
-        add(X0, X0, X0),
+        mul(X0, X0, X0),
         csrrw(X5, MSCRATCH, X5),
         clear_store(),
         clear_load(),

@@ -13,6 +13,3 @@ mod text;
 
 pub use code::{KernelCode, PART_MAX, kernel_code, link, naive_code};
 pub use isa_model::Words;
-
-#[cfg(test)]
-mod tests;

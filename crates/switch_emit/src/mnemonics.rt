@@ -3,7 +3,7 @@
 
 ghost use Rattle.std.specs.Prelude.{◌≡◌, ◌<◌, ◌^◌, pos};
 ghost use Rattle.hart_model.specs.Ports.{port_address};
-ghost use Rattle.core_model.specs.KernelText.{At, Does, add, addi, lui, lw, sw, csrrw, csrrs, mret, beq, blt, jal, clear_store, clear_load};
+ghost use Rattle.core_model.specs.KernelText.{At, Does, mul, addi, lui, lw, sw, csrrw, csrrs, mret, beq, blt, jal, clear_store, clear_load};
 ghost use Rattle.switch_emit.specs.Lines.{label_of};
 
 use crate::label::Label;
@@ -53,15 +53,15 @@ pub fn at(label: Label) -> Line
     Line::at(label)
 }
 
-/// rd = rs1 + rs2.
-pub fn add(rd: u8, rs1: u8, rs2: u8) -> Line
+/// rd = rs1 * rs2.
+pub fn mul(rd: u8, rs1: u8, rs2: u8) -> Line
     requires rd { rd < 32 }
     requires rs1 { rs1 < 32 }
     requires rs2 { rs2 < 32 }
-    ensures line { result ≡ add rd rs1 rs2 }
+    ensures line { result ≡ mul rd rs1 rs2 }
 {
     Line::does(Instr::AluReg {
-        op: Alu::Add,
+        op: Alu::Mul,
         rd: x(rd),
         rs1: x(rs1),
         rs2: x(rs2),
