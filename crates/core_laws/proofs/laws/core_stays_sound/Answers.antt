@@ -1,6 +1,0 @@
-use Rattle.core_laws.proofs.FromHarts.{stays-sound}
-use Rattle.core_laws.proofs.Proved.{kernel-harts}
-use Rattle.core_laws.proofs.laws.core_stays_sound.Goals as goal
-
-pub returns : goal.returns
-returns c = record { sound = stays-sound kernel-harts }
