@@ -1,0 +1,228 @@
+-- Cores whose harts are together stay so by every event, and so their logs agree publicly.
+use Rattle.std.proofs.Common.{◌≡◌, ℕ, zero, suc, ◌+◌, ◌≢◌, ◌⊎◌, inl, inr, List, [], ◌∷◌, ◌++◌, length, set, slice_get, length-set, Option, Some, None, option_map, refl, sym, ap, ◌∙◌, subst, arith}
+use Rattle.std.specs.Prelude.{All}
+use Rattle.std.proofs.lemmas.List.{append-nil}
+use Rattle.std.proofs.lemmas.List.Elements.{All-head}
+use Rattle.isa_model.specs.declared.ends.End.{End}
+use Rattle.isa_model.specs.Control.{kind_of}
+use Rattle.hart_model.specs.declared.calls.QueueCall.{QueueCall}
+use Rattle.hart_model.specs.declared.calls.QueueCall.TheVariants.{Take, GiveReady, GiveDone}
+use Rattle.hart_model.specs.declared.probe.Probe.{Probe}
+use Rattle.hart_model.specs.Context.{ContextState}
+use Rattle.hart_model.specs.HartState.{HartState, boot_hart, tick_of}
+use Rattle.hart_model.specs.Writes.{CellWrite, HartAndProbes}
+use Rattle.hart_model.specs.StepResult.{StepResult, Steps, Wants, Wedged}
+use Rattle.hart_model.specs.HartStep.{hart_step, answer_take, answer_give}
+use Rattle.core_model.specs.declared.event.Event.{Event}
+use Rattle.core_model.specs.declared.event.Event.TheVariants.{Go, Tick}
+use Rattle.core_model.specs.declared.loaded.Loaded.{Loaded}
+use Rattle.core_model.specs.Board.{BoardState, take_from, give_ready_of, give_done_of, boot_board}
+use Rattle.core_model.specs.Core.{CoreState, with_hart, after_take, after_give_done, after_call, after_step, after_go, after_tick, after_event, core_from, boot_core, bodies_from, harts_from, core_after, log_of}
+use Rattle.core_model.specs.Loaded.{IsLoaded}
+use Rattle.core_model.specs.LowEquivalence.{ArePairwise, AreAlike, AgreesPublicly, AgreePublicly}
+use Rattle.core_invariant.specs.KernelStates.{KernelParts}
+use Rattle.core_model.specs.Routines.{IsReadyContext}
+use Rattle.core_invariant.specs.OneHart.{EachHart}
+use Rattle.core_invariant.specs.Invariant.{IsCoreKept}
+use Rattle.core_model.proofs.Lists.{get-set}
+use Rattle.core_invariant.proofs.Composition.{event-kept}
+use Rattle.core_invariant.proofs.Boot.{boot-kept, boot-hart}
+use Rattle.core_model.specs.AlikeHarts.{AreContextsAlike, AreHeldAlike}
+use Rattle.noninterference.specs.AlikeCores.{AreBoardsAlike, AreLeftTogether, AreOnWayTogether, AreStepsTogether, BothHarts}
+use Rattle.noninterference.proofs.Pairs.{pairwise-append}
+use Rattle.noninterference.proofs.AlikeBoards.{boot-boards, boards-empty, boards-taken, boards-ready, boards-done}
+
+-- two cores as every event keeps them: alike, and the harts of one number together
+pub record AreCoresTogether (Together : ℕ → HartState → HartState → Type 0) (c d : CoreState) : Type 0 where
+  pub board : AreBoardsAlike c.board d.board
+  pub count : length c.harts ≡ length d.harts
+  pub harts : (i : ℕ) (h g : HartState) → slice_get c.harts i ≡ Some h → slice_get d.harts i ≡ Some g → Together i h g
+  pub log : AgreePublicly c.log d.log
+
+-- a place that one list has and the other doesn't
+pub one-short : {A : Type 0} (xs ys : List A) (i : ℕ) (x : A) → length xs ≡ length ys → slice_get xs i ≡ Some x → slice_get ys i ≡ None → ⊥
+one-short [] [] i x same is none = cc is
+one-short [] (y ∷ ys) i x same is none = cc is
+one-short (v ∷ xs) [] i x same is none = cc same
+one-short (v ∷ xs) (w ∷ ys) zero x same is none = cc none
+one-short (v ∷ xs) (w ∷ ys) (suc i) x same is none = one-short xs ys i x (cc same) is none
+
+module _ (Together : ℕ → HartState → HartState → Type 0) (k : KernelParts) (loaded other : Loaded)
+    (one : EachHart loaded.tasks k) (two : EachHart other.tasks k) (both : BothHarts Together loaded.tasks other.tasks k) where
+  module _ (c d : CoreState) (kept : IsCoreKept k loaded c) (kept_too : IsCoreKept k other d) (together : AreCoresTogether Together c d) where
+    module _ (hart : ℕ) where
+      -- one hart and the board change on both
+      pub with-hart-together : (a b : HartAndProbes) (left right : BoardState) → AreLeftTogether Together hart a b → AreBoardsAlike left right
+          → AreCoresTogether Together (with_hart c hart a left) (with_hart d hart b right)
+      with-hart-together a b left right now boards = record {
+        board = boards;
+        count = length-set c.harts hart a.hart ∙ together.count ∙ sym (length-set d.harts hart b.hart);
+        harts = λ i h g is there. at i h g (get-set c.harts hart i a.hart h is) (get-set d.harts hart i b.hart g there);
+        log = pairwise-append AgreesPublicly c.log d.log a.probes b.probes together.log now.probes;
+      }
+        where
+          at : (i : ℕ) (h g : HartState) → ((i ≡ hart) × (a.hart ≡ h)) ⊎ ((i ≢ hart) × (slice_get c.harts i ≡ Some h))
+              → ((i ≡ hart) × (b.hart ≡ g)) ⊎ ((i ≢ hart) × (slice_get d.harts i ≡ Some g)) → Together i h g
+          at i h g (inl p) (inl q) =
+              let P : ℕ → Type 0 = λ j. Together j h g in
+              let Q : HartState → Type 0 = λ f. Together hart f g in
+              let R : HartState → Type 0 = λ f. Together hart a.hart f in
+              subst P (sym p.0) (subst Q p.1 (subst R q.1 now.harts))
+          at i h g (inl p) (inr q) = absurd (q.0 p.0)
+          at i h g (inr p) (inl q) = absurd (p.0 q.0)
+          at i h g (inr p) (inr q) = together.harts i h g p.1 q.1
+
+      module _ (h g : HartState) (is : slice_get c.harts hart ≡ Some h) (is_too : slice_get d.harts hart ≡ Some g) where
+        on : AreOnWayTogether Together loaded.tasks other.tasks k hart h g
+        on = record { way = kept.harts hart h is; other = kept_too.harts hart g is_too; both = together.harts hart h g is is_too }
+
+        take-together : (begun started : List CellWrite) (rd next : ℕ) (ready more : List ContextState) → hart_step k.code.words h ≡ Wants Take begun rd next
+            → hart_step k.code.words g ≡ Wants Take started rd next → c.board.ready ≡ ready → d.board.ready ≡ more → ArePairwise AreContextsAlike ready more
+            → AreCoresTogether Together (after_take c hart h begun rd next (take_from c.board hart ready)).core
+            (after_take d hart g started rd next (take_from d.board hart more)).core
+        take-together begun started rd next [] [] wants wants_too e f pairs =
+            with-hart-together (answer_take begun rd next None h) (answer_take started rd next None g)
+            (take_from c.board hart []).board (take_from d.board hart []).board
+            (both.takes hart h g begun started rd next None None on wants wants_too tt tt tt) (boards-empty hart c.board d.board together.board)
+        take-together begun started rd next [] (y ∷ ys) wants wants_too e f pairs = absurd pairs
+        take-together begun started rd next (x ∷ xs) [] wants wants_too e f pairs = absurd pairs
+        take-together begun started rd next (x ∷ xs) (y ∷ ys) wants wants_too e f pairs =
+            let can = All-head (IsReadyContext loaded.tasks) x xs (subst (All (IsReadyContext loaded.tasks)) e kept.ready) in
+            let can_too = All-head (IsReadyContext other.tasks) y ys (subst (All (IsReadyContext other.tasks)) f kept_too.ready) in
+            with-hart-together (answer_take begun rd next (Some x) h) (answer_take started rd next (Some y) g)
+            (take_from c.board hart (x ∷ xs)).board (take_from d.board hart (y ∷ ys)).board
+            (both.takes hart h g begun started rd next (Some x) (Some y) on wants wants_too can can_too pairs.0)
+            (boards-taken hart c.board d.board together.board x y xs ys pairs.0 pairs.1)
+
+        ready-together : (begun started : List CellWrite) (rd next : ℕ) (held held_too : Option ContextState)
+            → hart_step k.code.words h ≡ Wants GiveReady begun rd next → hart_step k.code.words g ≡ Wants GiveReady started rd next
+            → AreHeldAlike held held_too
+            → AreCoresTogether Together (after_call c hart h GiveReady begun rd next held).core (after_call d hart g GiveReady started rd next held_too).core
+        ready-together begun started rd next None None wants wants_too held = together
+        ready-together begun started rd next None (Some y) wants wants_too held = absurd held
+        ready-together begun started rd next (Some x) None wants wants_too held = absurd held
+        ready-together begun started rd next (Some x) (Some y) wants wants_too held =
+            with-hart-together (answer_give begun next h) (answer_give started next g) (give_ready_of c.board hart x) (give_ready_of d.board hart y)
+            (both.gives_ready hart h g begun started rd next on wants wants_too) (boards-ready hart c.board d.board together.board x y held)
+
+        ended-together : (begun started : List CellWrite) (rd next : ℕ) (x y : ContextState) (end end_too : Option End)
+            → hart_step k.code.words h ≡ Wants GiveDone begun rd next → hart_step k.code.words g ≡ Wants GiveDone started rd next
+            → AreContextsAlike x y → option_map kind_of end ≡ option_map kind_of end_too
+            → AreCoresTogether Together (after_give_done c hart h begun next x end).core (after_give_done d hart g started next y end_too).core
+        ended-together begun started rd next x y None None wants wants_too held kinds = together
+        ended-together begun started rd next x y None (Some f) wants wants_too held kinds = absurd (cc kinds)
+        ended-together begun started rd next x y (Some e) None wants wants_too held kinds = absurd (cc kinds)
+        ended-together begun started rd next x y (Some e) (Some f) wants wants_too held kinds =
+            with-hart-together (answer_give begun next h) (answer_give started next g) (give_done_of c.board hart x e) (give_done_of d.board hart y f)
+            (both.gives_done hart h g begun started rd next on wants wants_too) (boards-done hart c.board d.board x y e f together.board held (cc kinds))
+
+        done-together : (begun started : List CellWrite) (rd next : ℕ) (held held_too : Option ContextState)
+            → hart_step k.code.words h ≡ Wants GiveDone begun rd next → hart_step k.code.words g ≡ Wants GiveDone started rd next
+            → AreHeldAlike held held_too
+            → AreCoresTogether Together (after_call c hart h GiveDone begun rd next held).core (after_call d hart g GiveDone started rd next held_too).core
+        done-together begun started rd next None None wants wants_too held = together
+        done-together begun started rd next None (Some y) wants wants_too held = absurd held
+        done-together begun started rd next (Some x) None wants wants_too held = absurd held
+        done-together begun started rd next (Some x) (Some y) wants wants_too held =
+            ended-together begun started rd next x y x.end y.end wants wants_too held held.end
+
+        call-together : (call : QueueCall) (begun started : List CellWrite) (rd next : ℕ) → hart_step k.code.words h ≡ Wants call begun rd next
+            → hart_step k.code.words g ≡ Wants call started rd next
+            → AreCoresTogether Together (after_call c hart h call begun rd next h.held).core (after_call d hart g call started rd next g.held).core
+        call-together Take begun started rd next wants wants_too =
+            take-together begun started rd next c.board.ready d.board.ready wants wants_too refl refl together.board.ready
+        call-together GiveReady begun started rd next wants wants_too =
+            ready-together begun started rd next h.held g.held wants wants_too (both.holds_alike hart h g GiveReady begun started rd next on wants wants_too)
+        call-together GiveDone begun started rd next wants wants_too =
+            done-together begun started rd next h.held g.held wants wants_too (both.holds_alike hart h g GiveDone begun started rd next on wants wants_too)
+
+        wants-together : (call call_too : QueueCall) (begun started : List CellWrite) (rd rd_too next next_too : ℕ) → call ≡ call_too → rd ≡ rd_too → next ≡ next_too
+            → hart_step k.code.words h ≡ Wants call begun rd next → hart_step k.code.words g ≡ Wants call_too started rd_too next_too
+            → AreCoresTogether Together (after_call c hart h call begun rd next h.held).core (after_call d hart g call_too started rd_too next_too g.held).core
+        wants-together call call_too begun started rd rd_too next next_too calls rds nexts wants wants_too =
+            let e : Wants call_too started rd_too next_too ≡ Wants call started rd next = rw (calls, rds, nexts) refl in
+            let P : StepResult → Type 0 = λ r. AreCoresTogether Together (after_call c hart h call begun rd next h.held).core (after_step d hart g r).core in
+            subst P (sym e) (call-together call begun started rd next wants (wants_too ∙ e))
+
+        step-together : (r q : StepResult) → hart_step k.code.words h ≡ r → hart_step k.code.words g ≡ q → AreStepsTogether (Together hart) r q
+            → AreCoresTogether Together (after_step c hart h r).core (after_step d hart g q).core
+        step-together (Steps after probes did) (Steps to entries done) is there same =
+            with-hart-together (record { hart = after; probes = probes }) (record { hart = to; probes = entries }) c.board d.board
+            (record { harts = same.1; probes = same.0 }) together.board
+        step-together (Steps after probes did) (Wants call begun rd next) is there same = absurd same
+        step-together (Steps after probes did) Wedged is there same = absurd same
+        step-together (Wants call begun rd next) (Steps to entries done) is there same = absurd same
+        step-together (Wants call begun rd next) (Wants call_too started rd_too next_too) is there same =
+            wants-together call call_too begun started rd rd_too next next_too same.0 same.1 same.2 is there
+        step-together (Wants call begun rd next) Wedged is there same = absurd same
+        step-together Wedged (Steps to entries done) is there same = absurd same
+        step-together Wedged (Wants call_too started rd_too next_too) is there same = absurd same
+        step-together Wedged Wedged is there same = together
+
+      go-together : (o p : Option HartState) → slice_get c.harts hart ≡ o → slice_get d.harts hart ≡ p
+          → AreCoresTogether Together (after_go k.code.words c hart o).core (after_go k.code.words d hart p).core
+      go-together None None is there = together
+      go-together None (Some g) is there = absurd (one-short d.harts c.harts hart g (sym together.count) there is)
+      go-together (Some h) None is there = absurd (one-short c.harts d.harts hart h together.count is there)
+      go-together (Some h) (Some g) is there =
+          step-together h g is there (hart_step k.code.words h) (hart_step k.code.words g) refl refl (both.steps hart h g (on h g is there))
+
+      tick-together : (o p : Option HartState) → slice_get c.harts hart ≡ o → slice_get d.harts hart ≡ p
+          → AreCoresTogether Together (after_tick c hart o) (after_tick d hart p)
+      tick-together None None is there = together
+      tick-together None (Some g) is there = absurd (one-short d.harts c.harts hart g (sym together.count) there is)
+      tick-together (Some h) None is there = absurd (one-short c.harts d.harts hart h together.count is there)
+      tick-together (Some h) (Some g) is there =
+          let P : List Probe → Type 0 = λ log. AreCoresTogether Together (record { board = c.board; harts = set c.harts hart (tick_of h); log = log })
+          (record { board = d.board; harts = set d.harts hart (tick_of g); log = d.log }) in
+          let Q : List Probe → Type 0 = λ log. AreCoresTogether Together (record { board = c.board; harts = set c.harts hart (tick_of h); log = c.log ++ [] })
+          (record { board = d.board; harts = set d.harts hart (tick_of g); log = log }) in
+          subst P (append-nil c.log) (subst Q (append-nil d.log) (with-hart-together (record { hart = tick_of h; probes = [] }) (record { hart = tick_of g; probes = [] })
+          c.board d.board (record { harts = both.ticks hart h g (on h g is there); probes = tt }) together.board))
+
+  -- Every event keeps cores together.
+  pub event-together : (c d : CoreState) → IsCoreKept k loaded c → IsCoreKept k other d → AreCoresTogether Together c d → (event : Event)
+      → AreCoresTogether Together (after_event k.code.words c event) (after_event k.code.words d event)
+  event-together c d kept kept_too together (Go hart) =
+      go-together c d kept kept_too together hart (slice_get c.harts hart) (slice_get d.harts hart) refl refl
+  event-together c d kept kept_too together (Tick hart) =
+      tick-together c d kept kept_too together hart (slice_get c.harts hart) (slice_get d.harts hart) refl refl
+
+  -- So does every list of events.
+  pub events-together : (c d : CoreState) → IsCoreKept k loaded c → IsCoreKept k other d → AreCoresTogether Together c d → (events : List Event)
+      → AreCoresTogether Together (core_from k.code.words c events) (core_from k.code.words d events)
+  unfolding core_from
+  events-together c d kept kept_too together [] = together
+  events-together c d kept kept_too together (event ∷ events) =
+      events-together (after_event k.code.words c event) (after_event k.code.words d event)
+      (event-kept k loaded one c kept event) (event-kept k other two d kept_too event)
+      (event-together c d kept kept_too together event) events
+
+  -- The cores of alike bundles at boot.
+  pub boot-together : AreAlike loaded other → AreCoresTogether Together (boot_core loaded k.code) (boot_core other k.code)
+  boot-together alike =
+      let same : harts_from 0 loaded.harts k.code.take ≡ harts_from 0 other.harts k.code.take = ap (λ n. harts_from 0 n k.code.take) alike.harts in
+      let P : ℕ → Type 0 = λ slots. AreBoardsAlike (boot_core loaded k.code).board (boot_board slots (bodies_from 0 other.tasks)) in
+      record {
+        board = subst P alike.slots (boot-boards loaded.slots loaded.tasks other.tasks alike.tasks);
+        count = ap (λ (hs : List HartState). length hs) same;
+        harts = λ i h g is there.
+            let place : 0 + i ≡ i = omega arith in
+            let Q : HartState → HartState → Type 0 = λ f e. Together i f e in
+            let start = ap (λ n. boot_hart n k.code.take) (sym place) in
+            let first = start ∙ boot-hart 0 loaded.harts k.code.take i h is in
+            let second = start ∙ boot-hart 0 other.harts k.code.take i g there in
+            subst (λ f. Q f g) first (subst (λ f. Q (boot_hart i k.code.take) f) second (both.boots i));
+        log = tt;
+      }
+
+  module _ (fits : IsLoaded loaded) (fits_too : IsLoaded other) (alike : AreAlike loaded other) (events : List Event) where
+    -- After every list of events the cores of alike bundles are together.
+    pub cores-stay-together : AreCoresTogether Together (core_after loaded k.code events) (core_after other k.code events)
+    cores-stay-together =
+        events-together (boot_core loaded k.code) (boot_core other k.code)
+        (boot-kept k loaded fits one) (boot-kept k other fits_too two) (boot-together alike) events
+
+    -- So their logs agree publicly,
+    pub logs-agree : AgreePublicly (log_of loaded k.code events) (log_of other k.code events)
+    logs-agree = cores-stay-together.log
