@@ -1,7 +1,7 @@
 -- What holds of what is held, whatever cells its words have, still holds after writes.
 use Rattle.std.proofs.Common.{ℕ, List, [], ◌∷◌, Option, Some, None}
 use Rattle.hart_model.specs.declared.place.Place.{Place}
-use Rattle.hart_model.specs.declared.place.Place.TheVariants.{Reg, PortA, PortB, Res, Load, Store, Scr, Zero, SlotWord, DataWord}
+use Rattle.hart_model.specs.declared.place.Place.TheVariants.{Reg, PortA, PortB, Res, Load, Store, Scr, Mul, Zero, SlotWord, DataWord}
 use Rattle.hart_model.specs.declared.tag.Cell.{Cell}
 use Rattle.hart_model.specs.Context.{ContextState}
 use Rattle.hart_model.specs.HartState.{HartState, held_with_word, held_with_data, hart_with_cell}
@@ -25,6 +25,7 @@ module _ (P : Option ContextState → Type 0)
   after-one h Load cell p = p
   after-one h Store cell p = p
   after-one h Scr cell p = p
+  after-one h Mul cell p = p
   after-one h Zero cell p = p
   after-one h (SlotWord i) cell p = word i cell h.held p
   after-one h (DataWord i) cell p = datum i cell h.held p

@@ -14,8 +14,8 @@ use Rattle.hart_state.specs.declared.user.UserDeed.{UserDeed}
 use Rattle.hart_state.specs.declared.writer.OperandCells.{OperandCells}
 use Rattle.hart_state.specs.declared.writer.Writer.{Writer}
 use Rattle.hart_state.specs.declared.writer.Writer.TheVariants.{User, Machine}
-use Rattle.hart_state.specs.View.{next_of}
-use Rattle.hart_state.specs.EffectView.{effect_of_outcome}
+use Rattle.rv_effect.specs.View.{next_of}
+use Rattle.rv_effect.specs.EffectView.{effect_value}
 use Rattle.hart_state.specs.WriterView.{operand_cells_of, after_writes_by}
 use Rattle.hart_state.specs.UserDeed.{HasUserDeed}
 
@@ -51,18 +51,18 @@ effect-probes h b who e w =
     written ∙ same_probes e.next (with_next_count a.hart) a.probes
 
 pub user-hart : (h : HartState) (held : Option ContextState) (d : UserDeed) → HasUserDeed h held (Some d) → (h1 h2 h3 : HartState)
-    → h1 ≡ (after_writes_by d.writer d.outcome.writes h).hart → h2 ≡ with_next_count h1
-    → h3 ≡ hart_after h2 (after_user_writes (no_writes h2) (next_of d.outcome.next)) → h3 ≡ hart_after h (user_instr_step h held)
+    → h1 ≡ (after_writes_by d.writer d.effect.writes h).hart → h2 ≡ with_next_count h1
+    → h3 ≡ hart_after h2 (after_user_writes (no_writes h2) (next_of d.effect.next)) → h3 ≡ hart_after h (user_instr_step h held)
 user-hart h None d k h1 h2 h3 e1 e2 e3 = absurd k
 user-hart h (Some c) d k h1 h2 h3 e1 e2 e3 =
-    effect-hart h c.body d.writer (effect_of_outcome d.outcome) k.writer h1 h2 h3 e1 e2 e3
+    effect-hart h c.body d.writer (effect_value d.effect) k.writer h1 h2 h3 e1 e2 e3
     ∙ ap (λ (e : Effect). hart_after h (after_user_effect h c.body e)) k.effect
 
 pub user-probes : (h : HartState) (held : Option ContextState) (d : UserDeed) → HasUserDeed h held (Some d)
-    → (after_writes_by d.writer d.outcome.writes h).probes ≡ probes_of (user_instr_step h held)
+    → (after_writes_by d.writer d.effect.writes h).probes ≡ probes_of (user_instr_step h held)
 user-probes h None d k = absurd k
 user-probes h (Some c) d k =
-    effect-probes h c.body d.writer (effect_of_outcome d.outcome) k.writer
+    effect-probes h c.body d.writer (effect_value d.effect) k.writer
     ∙ ap (λ (e : Effect). probes_of (after_user_effect h c.body e)) k.effect
 
 -- an effect in machine mode that goes on: the CSR, the writes, the side effect and the pc

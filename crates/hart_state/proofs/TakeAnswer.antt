@@ -17,9 +17,9 @@ use Rattle.hart_model.specs.HartStep.{take_cell, loaded_writes}
 use Rattle.hart_model.specs.MachineStep.{Reach, NeedsQueue, OperandCells, operand_cells, operand_values, machine_effect, machine_writes, load_rd, reach_of, by_reach, machine_instr_step}
 use Rattle.hart_state.specs.declared.writer.OperandCells.{OperandCells as CodeCells}
 use Rattle.hart_state.specs.declared.writer.Writer.TheVariants.{Machine}
-use Rattle.hart_state.specs.declared.outcome.Outcome.{Outcome}
+use Rattle.rv_effect.specs.declared.effect.Effect.{Effect as CodeEffect}
 use Rattle.hart_state.specs.declared.answering.Asked.{Asked}
-use Rattle.hart_state.specs.EffectView.{effect_of_outcome}
+use Rattle.rv_effect.specs.EffectView.{effect_value}
 use Rattle.hart_state.specs.WriterView.{operand_cells_of, tag_by, writes_by, after_writes_by}
 use Rattle.hart_state.specs.Asked.{AsksTake, HasAsked, BeginsShort, after_take}
 use Rattle.hart_state.proofs.Asking.{begins-short}
@@ -43,12 +43,12 @@ abbrev pub begun_and_loaded : Option ContextState → ℕ → HartAndProbes → 
 begun_and_loaded got rd one = in_two one (after_writes (loaded_writes rd (take_cell got)) one.hart)
 
 pub taken : (h : HartState) (step : StepResult) (a : Asked) (got : Option ContextState) → AsksTake step → HasAsked h step (Some a)
-    → after_take step got h ≡ with_got got a.next (begun_and_loaded got a.rd (after_writes_by (Machine a.cells) a.outcome.writes h))
+    → after_take step got h ≡ with_got got a.next (begun_and_loaded got a.rd (after_writes_by (Machine a.cells) a.effect.writes h))
 taken h (Wants calls.Take begun rd next) a got asks k =
     ap (λ (x : HartAndProbes). with_got got next x) (after-append begun (loaded_writes rd (take_cell got)) h)
     ∙ ap (λ (b : List CellWrite). with_got got next (begun_and_loaded got rd (after_writes b h))) (sym k.begun_is)
-    ∙ ap (λ (r : ℕ). with_got got next (begun_and_loaded got r (after_writes_by (Machine a.cells) a.outcome.writes h))) (sym k.rd_is)
-    ∙ ap (λ (n : ℕ). with_got got n (begun_and_loaded got a.rd (after_writes_by (Machine a.cells) a.outcome.writes h))) (sym k.next_is)
+    ∙ ap (λ (r : ℕ). with_got got next (begun_and_loaded got r (after_writes_by (Machine a.cells) a.effect.writes h))) (sym k.rd_is)
+    ∙ ap (λ (n : ℕ). with_got got n (begun_and_loaded got a.rd (after_writes_by (Machine a.cells) a.effect.writes h))) (sym k.next_is)
 taken h (Wants calls.GiveReady begun rd next) a got asks k = absurd asks
 taken h (Wants calls.GiveDone begun rd next) a got asks k = absurd asks
 taken h (Steps hart probes did) a got asks k = absurd asks
@@ -61,7 +61,7 @@ take-found h (Wants calls.GiveDone begun rd next) asks k = k
 take-found h (Steps hart probes did) asks k = asks
 take-found h Wedged asks k = asks
 
-pub take-short : (h : HartState) (step : StepResult) (a : Asked) → AsksTake step → HasAsked h step (Some a) → length a.outcome.writes ≤ 2
+pub take-short : (h : HartState) (step : StepResult) (a : Asked) → AsksTake step → HasAsked h step (Some a) → length a.effect.writes ≤ 2
 take-short h (Wants calls.Take begun rd next) a asks k = k.short
 take-short h (Wants calls.GiveReady begun rd next) a asks k = absurd asks
 take-short h (Wants calls.GiveDone begun rd next) a asks k = absurd asks
@@ -74,15 +74,15 @@ take-aligned h (Steps hart probes did) a k = absurd k
 take-aligned h Wedged a k = absurd k
 
 -- an instruction that the queue has to answer
-pub needs : (h : HartState) (instr : Instr) (call : QueueCall) (word : Option Cell) (cells : CodeCells) (outcome : Outcome) (rd next : ℕ)
+pub needs : (h : HartState) (instr : Instr) (call : QueueCall) (word : Option Cell) (cells : CodeCells) (code_effect : CodeEffect) (rd next : ℕ)
     → NeedsQueue call word ≡ reach_of h instr → operand_cells_of cells ≡ operand_cells h instr word blank
-    → effect_of_outcome outcome ≡ effect_of instr h.pc (operand_values (operand_cells_of cells))
+    → effect_value code_effect ≡ effect_of instr h.pc (operand_values (operand_cells_of cells))
     → rd ≡ load_rd instr → next ≡ low_word (h.pc + 4) → h.pc % 4 ≡ 0
-    → HasAsked h (machine_instr_step h instr) (Some (record { cells = cells; outcome = outcome; rd = rd; next = next }))
-needs h instr call word cells outcome rd next reach same effect rd_is next_is aligned =
-    let a : Asked = record { cells = cells; outcome = outcome; rd = rd; next = next } in
-    let writes : outcome.writes ≡ (effect_of instr h.pc (operand_values (operand_cells_of cells))).writes = ap (λ (e : Effect). e.writes) effect in
-    let of_step : outcome.writes ≡ (effect_of instr h.pc (operand_values (operand_cells h instr word blank))).writes =
+    → HasAsked h (machine_instr_step h instr) (Some (record { cells = cells; effect = code_effect; rd = rd; next = next }))
+needs h instr call word cells code_effect rd next reach same effect rd_is next_is aligned =
+    let a : Asked = record { cells = cells; effect = code_effect; rd = rd; next = next } in
+    let writes : code_effect.writes ≡ (effect_of instr h.pc (operand_values (operand_cells_of cells))).writes = ap (λ (e : Effect). e.writes) effect in
+    let of_step : code_effect.writes ≡ (effect_of instr h.pc (operand_values (operand_cells h instr word blank))).writes =
     writes ∙ ap (λ (o : OperandCells). (effect_of instr h.pc (operand_values o)).writes) same in
     subst (λ (r : Reach). HasAsked h (by_reach h instr r) (Some a)) reach (record {
       begun_is = ap (λ (ws : List Write). writes_by (Machine cells) h.held ws) writes ∙ ap (λ (o : OperandCells). machine_writes h o (machine_effect h instr o)) same;
@@ -96,7 +96,7 @@ needs h instr call word cells outcome rd next reach same effect rd_is next_is al
 
 -- the same by what the code has: the writes, the hart after them, and the cell that is loaded
 pub take-parts : (h h1 : HartState) (step : StepResult) (a : Asked) (got : Option ContextState) (ws : List Write) (cell : Cell)
-    → AsksTake step → HasAsked h step (Some a) → ws ≡ a.outcome.writes → cell ≡ take_cell got → h1 ≡ (after_writes_by (Machine a.cells) ws h).hart
+    → AsksTake step → HasAsked h step (Some a) → ws ≡ a.effect.writes → cell ≡ take_cell got → h1 ≡ (after_writes_by (Machine a.cells) ws h).hart
     → with_got got a.next (in_two (after_writes_by (Machine a.cells) ws h) (after_writes (loaded_writes a.rd cell) h1)) ≡ after_take step got h
 take-parts h h1 step a got ws cell asks k ws_is cell_is h1_is =
     let one = after_writes_by (Machine a.cells) ws h in

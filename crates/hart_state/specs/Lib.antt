@@ -1,7 +1,5 @@
 pub mod PlaceBounds
 pub mod Reached
-pub mod View
-pub mod EffectView
 pub mod WriterView
 pub mod UserDeed
 pub mod PortView

@@ -6,8 +6,8 @@ use Rattle.hart_model.specs.UserStep.{user_effect}
 use Rattle.hart_state.specs.declared.user.UserDeed.{UserDeed}
 use Rattle.hart_state.specs.declared.writer.Writer.TheVariants.{User}
 use Rattle.isa_model.specs.Effect.{GoesAligned}
-use Rattle.hart_state.specs.View.{next_of}
-use Rattle.hart_state.specs.EffectView.{effect_of_outcome}
+use Rattle.rv_effect.specs.View.{next_of}
+use Rattle.rv_effect.specs.EffectView.{effect_value}
 
 -- the count of what is held has room for one instruction more
 abbrev pub CanCount : Option ContextState → Type 0
@@ -17,8 +17,8 @@ CanCount (Some c) = c.body.count + 1 < 2 ^ 32
 -- the task's next step, with the effect of the instruction at the pc
 pub record IsUserDeed (h : HartState) (c : ContextState) (d : UserDeed) : Type 0 where
   pub writer : d.writer ≡ User c.body.task_no (c.body.count + 1)
-  pub effect : effect_of_outcome d.outcome ≡ user_effect h c.body
-  pub aligned : GoesAligned (next_of d.outcome.next)
+  pub effect : effect_value d.effect ≡ user_effect h c.body
+  pub aligned : GoesAligned (next_of d.effect.next)
 
 abbrev pub HasUserDeed : HartState → Option ContextState → Option UserDeed → Type 0
 HasUserDeed h None None = Unit {0}

@@ -8,27 +8,24 @@ ghost use Rattle.hart_model.specs.MachineStep.{load_rd, machine_instr_step, mach
 ghost use Rattle.hart_model.specs.Writes.{after_writes};
 ghost use Rattle.hart_state.specs.Asked.{HasAsked, AsksTake, AsksGive, after_take, after_give};
 
-use crate::csr_forms::effect_of;
-use crate::forms::next_address;
 use crate::hart::{Hart, blank};
 use crate::machine::kernel_word;
-use crate::outcome::Outcome;
 use crate::ports::public;
 use crate::reach::Reach;
-use crate::user_operands::zero_register;
 use crate::writer::{OperandCells, Writer};
 use context_slot::Context;
 use hart_model::{Cell, Mode, Place};
 use isa_model::{Instr, RegNo};
 use probe_log::Keeper;
 use rv_decode::decode;
+use rv_effect::{Effect, effect_of, next_address, zero_register};
 
 /// What an instruction has begun with that the queue has to answer: its operands and its effect until then, the register that a load
 /// goes to, and where it goes on.
 #[derive(Drop)]
 pub struct Asked {
     pub cells: OperandCells,
-    pub outcome: Outcome,
+    pub effect: Effect,
     pub rd: RegNo,
     pub next: u32,
 }
@@ -62,10 +59,10 @@ impl Hart {
         match self.reach_of(instr) {
             Reach::NeedsQueue { call: _, word } => {
                 let cells = self.operand_cells(instr, word, blank());
-                let outcome = effect_of(instr, self.pc, &cells.values());
+                let effect = effect_of(instr, self.pc, &cells.values());
                 Some(Asked {
                     cells,
-                    outcome,
+                    effect,
                     rd: load_register(instr),
                     next: next_address(self.pc),
                 })
@@ -127,7 +124,7 @@ impl Hart {
             Some(asked) => {
                 let cell = take_cell(&got);
                 let writer = Writer::Machine(asked.cells);
-                self.write_from(&writer, asked.outcome.writes.as_slice(), 0, keeper);
+                self.write_from(&writer, asked.effect.writes.as_slice(), 0, keeper);
                 self.write_loaded(asked.rd, &cell, keeper);
                 self.held = got;
                 self.pc = asked.next;
@@ -150,7 +147,7 @@ impl Hart {
             None => unreachable!(),
             Some(asked) => {
                 let writer = Writer::Machine(asked.cells);
-                self.write_from(&writer, asked.outcome.writes.as_slice(), 0, keeper);
+                self.write_from(&writer, asked.effect.writes.as_slice(), 0, keeper);
                 self.let_go(asked.next)
             }
         }

@@ -82,6 +82,7 @@ impl Hart {
             Latch::Load => Some(Place::Load),
             Latch::Store => Some(Place::Store),
             Latch::Scr => Some(Place::Scr),
+            Latch::Mul => Some(Place::Mul),
             Latch::Mem(at) => self.word_place(reaches_data, *at),
         }
     }
@@ -111,6 +112,7 @@ impl Hart {
             Place::Load => self.load,
             Place::Store => self.store,
             Place::Scr => scratch(&self.csrs),
+            Place::Mul => self.mul,
             Place::Zero => self.zero_word,
             Place::SlotWord(i) => match &self.held {
                 Some(context) => context.slot_word(*i),
@@ -147,6 +149,7 @@ impl Hart {
             Place::Load => self.load = cell,
             Place::Store => self.store = cell,
             Place::Scr => set_scratch(&mut self.csrs, cell),
+            Place::Mul => self.mul = cell,
             Place::Zero => self.zero_word = cell,
             Place::SlotWord(i) => match &mut self.held {
                 Some(context) => context.set_slot_word(*i, cell),
@@ -172,6 +175,7 @@ impl Hart {
             Place::Load => Latch::Load,
             Place::Store => Latch::Store,
             Place::Scr => Latch::Scr,
+            Place::Mul => Latch::Mul,
             Place::Zero => Latch::Mem(ZERO_ADDRESS),
             Place::SlotWord(i) => match &self.held {
                 Some(context) => Latch::Mem(slot_word_address(context, *i)),

@@ -18,6 +18,7 @@ pub struct Hart {
     pub(crate) res: Cell,
     pub(crate) load: Cell,
     pub(crate) store: Cell,
+    pub(crate) mul: Cell,
     pub(crate) zero_word: Cell,
     pub(crate) csrs: Csrs,
     pub(crate) pc: u32,
@@ -37,6 +38,7 @@ impl Model for Hart {
       res = h.res;
       load = h.load;
       store = h.store;
+      mul = h.mul;
       zero_word = h.zero_word;
       csrs = h.csrs;
       pc = h.pc;
@@ -70,6 +72,7 @@ impl Hart {
             res: blank(),
             load: blank(),
             store: blank(),
+            mul: blank(),
             zero_word: blank(),
             csrs: Csrs::new(hart),
             pc: take,

@@ -4,13 +4,8 @@
 
 mod answering;
 mod cells;
-mod csr_forms;
-mod effect;
-mod flow;
-mod forms;
 mod hart;
 mod machine;
-mod outcome;
 mod ports;
 mod reach;
 mod registers;
@@ -18,7 +13,6 @@ mod stepping;
 mod user;
 mod user_operands;
 mod writer;
-mod writes;
 mod writing;
 
 pub use context_slot::Context;
@@ -26,6 +20,3 @@ pub use hart::Hart;
 pub use hart_model::{Cell, Did, Mode, QueueCall, Tag};
 pub use isa_model::Latch;
 pub use probe_log::Keeper;
-
-#[cfg(test)]
-mod tests;

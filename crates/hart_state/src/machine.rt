@@ -6,15 +6,12 @@ ghost use Rattle.hart_model.specs.declared.probe.Probe.{Probe as LogEntry};
 ghost use Rattle.hart_model.specs.MachineStep.{kernel_word_at, csrs_after_effect, after_side, by_csrs, after_mret, by_next, machine_instr_step as instr_step_of, machine_step as machine_step_of};
 ghost use Rattle.hart_model.specs.StepResult.{did_of, hart_after, probes_of};
 ghost use Rattle.isa_model.specs.Effect.{GoesAligned};
-ghost use Rattle.hart_state.specs.View.{optional_csr_write_of, next_of};
-ghost use Rattle.hart_state.specs.EffectView.{effect_of_outcome};
+ghost use Rattle.rv_effect.specs.View.{optional_csr_write_of, next_of};
+ghost use Rattle.rv_effect.specs.EffectView.{effect_value};
 ghost use Rattle.hart_state.specs.WriterView.{operand_cells_of};
 ghost use Rattle.hart_state.specs.PortView.{side_of, IsPossible};
 
-use crate::csr_forms::effect_of;
-use crate::effect::{Follow, RegisterWrite};
 use crate::hart::Hart;
-use crate::outcome::Outcome;
 use crate::ports::Side;
 use crate::reach::Reach;
 use crate::writer::{OperandCells, Writer};
@@ -22,6 +19,7 @@ use hart_model::{Cell, Did};
 use isa_model::Instr;
 use probe_log::Keeper;
 use rv_decode::decode;
+use rv_effect::{CsrWrite, Effect, Next, effect_of};
 
 /// Where the kernel's code stands.
 const KERNEL_ADDRESS: u32 = 0x1000;
@@ -39,7 +37,7 @@ pub(crate) fn kernel_word(code: &[u32], at: u32) -> Option<u32>
 
 impl Hart {
     /// Writes the CSR of an effect, if it writes one; false, with nothing changed, where that is refused.
-    fn write_csr(&mut self, cells: &OperandCells, write: &Option<RegisterWrite>) -> bool
+    fn write_csr(&mut self, cells: &OperandCells, write: &Option<CsrWrite>) -> bool
         ensures accepted { result ≡ is_some (csrs_after_effect self.old.csrs (operand_cells_of cells.now) (optional_csr_write_of write.now)) }
         ensures hart { self.new ≡ record self.old { csrs = unwrap_or (csrs_after_effect self.old.csrs (operand_cells_of cells.now) (optional_csr_write_of write.now)) self.old.csrs } }
     {
@@ -83,28 +81,28 @@ impl Hart {
         &mut self,
         cells: &OperandCells,
         side: Side,
-        outcome: &Outcome,
+        effect: &Effect,
         pc: u32,
         keeper: &mut K,
     ) -> Did
         requires aligned { pc % 4 ≡ 0 }
         requires possible { IsPossible self.old.held side }
         requires room { 6 ≤ K.room_of keeper.old }
-        ensures did { let o = operand_cells_of cells.now in let e = effect_of_outcome outcome.now in
+        ensures did { let o = operand_cells_of cells.now in let e = effect_value effect.now in
             result ≡ did_of (by_csrs self.old o (side_of side) e pc (csrs_after_effect self.old.csrs o e.csr)) }
-        ensures hart { let o = operand_cells_of cells.now in let e = effect_of_outcome outcome.now in
+        ensures hart { let o = operand_cells_of cells.now in let e = effect_value effect.now in
             self.new ≡ hart_after self.old (by_csrs self.old o (side_of side) e pc (csrs_after_effect self.old.csrs o e.csr)) }
-        ensures log { let o = operand_cells_of cells.now in let e = effect_of_outcome outcome.now in
+        ensures log { let o = operand_cells_of cells.now in let e = effect_value effect.now in
             (log : List LogEntry) → K.stands keeper.old log →
             K.stands keeper.new (log ++ probes_of (by_csrs self.old o (side_of side) e pc (csrs_after_effect self.old.csrs o e.csr))) }
-        ensures room { let o = operand_cells_of cells.now in let e = effect_of_outcome outcome.now in
+        ensures room { let o = operand_cells_of cells.now in let e = effect_value effect.now in
             K.room_of keeper.new + length (probes_of (by_csrs self.old o (side_of side) e pc (csrs_after_effect self.old.csrs o e.csr))) ≡ K.room_of keeper.old }
     {
-        if !self.write_csr(cells, &outcome.csr) {
+        if !self.write_csr(cells, &effect.csr) {
             return Did::Wedged;
         }
         let writer = Writer::Machine(*cells);
-        self.write_from(&writer, outcome.writes.as_slice(), 0, keeper);
+        self.write_from(&writer, effect.writes.as_slice(), 0, keeper);
         self.act(side);
         self.pc = pc;
         Did::Ran
@@ -124,26 +122,26 @@ impl Hart {
         &mut self,
         cells: &OperandCells,
         side: Side,
-        outcome: &Outcome,
+        effect: &Effect,
         keeper: &mut K,
     ) -> Did
-        requires aligned { GoesAligned (next_of outcome.now.next) }
+        requires aligned { GoesAligned (next_of effect.now.next) }
         requires possible { IsPossible self.old.held side }
         requires room { 6 ≤ K.room_of keeper.old }
-        ensures did { let o = operand_cells_of cells.now in let e = effect_of_outcome outcome.now in
+        ensures did { let o = operand_cells_of cells.now in let e = effect_value effect.now in
             result ≡ did_of (by_next self.old o (side_of side) e e.next) }
-        ensures hart { let o = operand_cells_of cells.now in let e = effect_of_outcome outcome.now in
+        ensures hart { let o = operand_cells_of cells.now in let e = effect_value effect.now in
             self.new ≡ hart_after self.old (by_next self.old o (side_of side) e e.next) }
-        ensures log { let o = operand_cells_of cells.now in let e = effect_of_outcome outcome.now in
+        ensures log { let o = operand_cells_of cells.now in let e = effect_value effect.now in
             (log : List LogEntry) → K.stands keeper.old log → K.stands keeper.new (log ++ probes_of (by_next self.old o (side_of side) e e.next)) }
-        ensures room { let o = operand_cells_of cells.now in let e = effect_of_outcome outcome.now in
+        ensures room { let o = operand_cells_of cells.now in let e = effect_value effect.now in
             K.room_of keeper.new + length (probes_of (by_next self.old o (side_of side) e e.next)) ≡ K.room_of keeper.old }
     {
-        match outcome.next {
-            Follow::Goes(pc) => self.go_on(cells, side, outcome, pc, keeper),
-            Follow::Raises(_) => Did::Wedged,
-            Follow::Calls => Did::Wedged,
-            Follow::Returns => self.return_from_trap(),
+        match effect.next {
+            Next::Goes(pc) => self.go_on(cells, side, effect, pc, keeper),
+            Next::Raises(_) => Did::Wedged,
+            Next::Calls => Did::Wedged,
+            Next::Returns => self.return_from_trap(),
         }
     }
 
@@ -165,8 +163,8 @@ impl Hart {
                 side,
             } => {
                 let cells = self.operand_cells(instr, word, old_csr);
-                let outcome = effect_of(instr, self.pc, &cells.values());
-                self.perform(&cells, side, &outcome, keeper)
+                let effect = effect_of(instr, self.pc, &cells.values());
+                self.perform(&cells, side, &effect, keeper)
             }
         }
     }

@@ -8,14 +8,13 @@ ghost use Rattle.hart_state.specs.PortView.{answer_of, IsPossibleAnswer};
 ghost use Rattle.hart_state.specs.WriterView.{operand_cells_of};
 ghost use Rattle.hart_state.specs.ReachView.{target_value, reach_value, IsTargetThere, IsPossibleReach};
 
-use crate::forms::address_of;
 use crate::hart::{Hart, blank};
 use crate::ports::{Answer, Side, is_public, port_at, port_load, port_store};
 use crate::registers::previous_mode;
-use crate::user_operands::{first_register, second_register};
 use crate::writer::OperandCells;
 use hart_model::{Cell, Mode, Place, Port, QueueCall};
 use isa_model::{Instr, Latch, LoadKind, StoreKind};
+use rv_effect::{address_of, first_register, second_register};
 
 /// What an address is to machine mode.
 #[derive(Clone, Copy)]

@@ -6,42 +6,37 @@ ghost use Rattle.isa_model.specs.InstrTable.{instr_of};
 ghost use Rattle.hart_model.specs.Traps.{csrs_after_trap};
 ghost use Rattle.hart_model.specs.UserStep.{is_fuel_used as is_fuel_used_by, exception as exception_of, user_effect, user_effect_of_instr, with_next_count, after_user_writes, no_writes, user_instr_step as instr_step_of, user_step as user_step_of};
 ghost use Rattle.hart_model.specs.StepResult.{did_of, hart_after, probes_of};
-ghost use Rattle.hart_state.specs.View.{next_of};
-ghost use Rattle.hart_state.specs.EffectView.{effect_of_outcome};
+ghost use Rattle.rv_effect.specs.View.{next_of};
+ghost use Rattle.rv_effect.specs.EffectView.{effect_value};
 ghost use Rattle.isa_model.specs.Effect.{GoesAligned};
 ghost use Rattle.hart_state.specs.UserDeed.{HasUserDeed, CanCount};
 
-use crate::csr_forms::effect_of;
-use crate::effect::Follow;
-use crate::forms::outcome;
 use crate::hart::Hart;
-use crate::outcome::Outcome;
-use crate::user_operands::is_privileged;
 use crate::writer::Writer;
-use crate::writes::Writes;
 use context_slot::Body;
 use hart_model::Did;
 use probe_log::Keeper;
 use rv_decode::decode;
+use rv_effect::{Effect, Next, Writes, effect_of, is_privileged, latch_effect};
 
 /// What an instruction of a task does: who writes, and the effect.
 #[derive(Drop)]
 pub struct UserDeed {
     pub writer: Writer,
-    pub outcome: Outcome,
+    pub effect: Effect,
 }
 
 /// An exception before anything is written.
-fn exception(cause: u32) -> Outcome
-    ensures effect { effect_of_outcome result ≡ exception_of cause }
+fn exception(cause: u32) -> Effect
+    ensures effect { effect_value result ≡ exception_of cause }
 {
-    outcome(Writes::new(), Follow::Raises(cause))
+    latch_effect(Writes::new(), Next::Raises(cause))
 }
 
 impl Hart {
     /// The effect of the instruction of a word.
-    fn effect_of_word(&self, body: &Body, word: u32) -> Outcome
-        ensures effect { effect_of_outcome result ≡ user_effect_of_instr self.now body.now (instr_of word) }
+    fn effect_of_word(&self, body: &Body, word: u32) -> Effect
+        ensures effect { effect_value result ≡ user_effect_of_instr self.now body.now (instr_of word) }
         ensures aligned { GoesAligned (next_of result.next) }
     {
         match decode(word) {
@@ -57,8 +52,8 @@ impl Hart {
     }
 
     /// The effect of the instruction at the pc, by the order of the checks.
-    fn user_outcome(&self, body: &Body) -> Outcome
-        ensures effect { effect_of_outcome result ≡ user_effect self.now body.now }
+    fn user_outcome(&self, body: &Body) -> Effect
+        ensures effect { effect_value result ≡ user_effect self.now body.now }
         ensures aligned { GoesAligned (next_of result.next) }
     {
         match self.user_code_word(body) {
@@ -82,7 +77,7 @@ impl Hart {
                 };
                 Some(UserDeed {
                     writer,
-                    outcome: self.user_outcome(body),
+                    effect: self.user_outcome(body),
                 })
             }
         }
@@ -98,19 +93,19 @@ impl Hart {
     }
 
     /// What follows the writes of an instruction in user mode.
-    fn follow(&mut self, next: Follow) -> Did
+    fn follow(&mut self, next: Next) -> Did
         requires aligned { GoesAligned (next_of next) }
         ensures did { result ≡ did_of (after_user_writes (no_writes self.old) (next_of next)) }
         ensures hart { self.new ≡ hart_after self.old (after_user_writes (no_writes self.old) (next_of next)) }
     {
         match next {
-            Follow::Goes(pc) => {
+            Next::Goes(pc) => {
                 self.pc = pc;
                 Did::Ran
             }
-            Follow::Raises(cause) => self.trap(cause),
-            Follow::Calls => self.trap(8),
-            Follow::Returns => self.trap(2),
+            Next::Raises(cause) => self.trap(cause),
+            Next::Calls => self.trap(8),
+            Next::Returns => self.trap(2),
         }
     }
 
@@ -150,9 +145,9 @@ impl Hart {
         match self.user_deed() {
             None => self.trap(1),
             Some(deed) => {
-                self.write_from(&deed.writer, deed.outcome.writes.as_slice(), 0, keeper);
+                self.write_from(&deed.writer, deed.effect.writes.as_slice(), 0, keeper);
                 self.raise_count();
-                self.follow(deed.outcome.next)
+                self.follow(deed.effect.next)
             }
         }
     }

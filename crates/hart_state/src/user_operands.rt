@@ -4,103 +4,16 @@ ghost use Rattle.std.specs.Prelude.{◌≡◌, None, if◌then◌else◌};
 ghost use Rattle.isa_model.specs.Arithmetic.{load_size as load_size_of, store_size as store_size_of};
 ghost use Rattle.isa_model.specs.Alone.{code_word_at, data_word_at, word_reached, word_or_else, is_data_address as is_data_address_of, is_privileged as is_privileged_instr, rs1_of, rs2_of};
 ghost use Rattle.hart_model.specs.UserStep.{latch_value, is_access_allowed, user_operands, user_code_word};
-ghost use Rattle.hart_state.specs.View.{operands_of_values};
+ghost use Rattle.rv_effect.specs.View.{operands_of};
 
-use crate::effect::Values;
-use crate::forms::address_of;
 use crate::hart::Hart;
 use context_slot::Body;
 use hart_model::{Access, Mode};
-use isa_model::{Instr, Latch, LoadKind, RegNo, StoreKind, Task};
-
-/// x0.
-pub(crate) fn zero_register() -> RegNo
-    ensures number { result ≡ 0 }
-{
-    match RegNo::new(0) {
-        Some(register) => register,
-        None => unreachable!(),
-    }
-}
-
-/// The register rs1, and x0 for a form without it.
-pub(crate) fn first_register(instr: &Instr) -> RegNo
-    ensures number { result ≡ rs1_of instr.now }
-{
-    match instr {
-        Instr::Jalr { rs1, .. } => *rs1,
-        Instr::Branch { rs1, .. } => *rs1,
-        Instr::Load { rs1, .. } => *rs1,
-        Instr::Store { rs1, .. } => *rs1,
-        Instr::AluImm { rs1, .. } => *rs1,
-        Instr::AluReg { rs1, .. } => *rs1,
-        Instr::Csr { rs1, .. } => *rs1,
-        _ => zero_register(),
-    }
-}
-
-/// The register rs2, and x0 for a form without it.
-pub(crate) fn second_register(instr: &Instr) -> RegNo
-    ensures number { result ≡ rs2_of instr.now }
-{
-    match instr {
-        Instr::Branch { rs2, .. } => *rs2,
-        Instr::Store { rs2, .. } => *rs2,
-        Instr::AluReg { rs2, .. } => *rs2,
-        _ => zero_register(),
-    }
-}
-
-/// Whether an instruction is illegal in user mode.
-pub(crate) fn is_privileged(instr: &Instr) -> bool
-    ensures test { result ≡ is_privileged_instr instr.now }
-{
-    matches!(
-        instr,
-        Instr::Mret | Instr::Csr { .. } | Instr::CsrImm { .. }
-    )
-}
-
-/// How many bytes a load moves.
-fn load_size(kind: LoadKind) -> u32
-    ensures size { result ≡ load_size_of kind }
-{
-    match kind {
-        LoadKind::B | LoadKind::Bu => 1,
-        LoadKind::H | LoadKind::Hu => 2,
-        LoadKind::W => 4,
-    }
-}
-
-/// How many bytes a store moves.
-fn store_size(kind: StoreKind) -> u32
-    ensures size { result ≡ store_size_of kind }
-{
-    match kind {
-        StoreKind::B => 1,
-        StoreKind::H => 2,
-        StoreKind::W => 4,
-    }
-}
-
-/// The code word that an address lies in.
-fn code_word(task: &Task, at: u32) -> Option<u32>
-    ensures word { result ≡ code_word_at task.now at }
-{
-    if at < task.code_at {
-        return None;
-    }
-    let index = (at - task.code_at) / 4;
-    task.code.as_slice().get(index as usize).copied()
-}
-
-/// Whether an address lies in the data.
-fn is_data_address(task: &Task, at: u32) -> bool
-    ensures test { result ≡ is_data_address_of task.now at }
-{
-    let end = u64::from(task.data_at) + 4 * u64::from(task.data_len);
-    task.data_at <= at && u64::from(at) < end
-}
+use isa_model::{Instr, Latch, Task};
+use rv_effect::{
+    Operands, address_of, code_word, first_register, is_data_address, load_size, second_register,
+    store_size,
+};
 
 impl Hart {
     /// The value of a latch, and 0 for one that the hart hasn't.
@@ -179,12 +92,12 @@ impl Hart {
     }
 
     /// The values of the operands of an instruction.
-    pub(crate) fn user_values(&self, body: &Body, instr: &Instr) -> Values
-        ensures operands { operands_of_values result ≡ user_operands self.now body.now instr.now }
+    pub(crate) fn user_values(&self, body: &Body, instr: &Instr) -> Operands
+        ensures operands { operands_of result ≡ user_operands self.now body.now instr.now }
     {
         let rs1 = self.value(Latch::Reg(first_register(instr)));
         let rs2 = self.value(Latch::Reg(second_register(instr)));
-        Values {
+        Operands {
             rs1,
             rs2,
             word: self.user_word(body.task(), instr, rs1),

@@ -3,12 +3,11 @@
 ghost use Rattle.std.specs.Prelude.{◌≡◌, [], ◌∷◌, option_map};
 ghost use Rattle.hart_model.specs.Taint.{mixture_of, machine_tag};
 ghost use Rattle.hart_model.specs.MachineStep.{tag_of_word, operand_tag, operand_values};
-ghost use Rattle.hart_state.specs.View.{operand_of, flow_of, write_of, operands_of_values};
+ghost use Rattle.rv_effect.specs.View.{operand_of, flow_of, write_of, operands_of};
 ghost use Rattle.hart_state.specs.WriterView.{operand_cells_of, tag_by, reaches_data};
 
-use crate::effect::Values;
-use crate::flow::{Inflow, LatchWrite, Source};
 use hart_model::{Cell, Tag};
+use rv_effect::{Flow, Operand, Operands, Write};
 
 /// The cells of the operands of an instruction.
 #[derive(Clone, Copy)]
@@ -69,10 +68,10 @@ fn word_value(word: &Option<Cell>) -> Option<u32>
 
 impl OperandCells {
     /// The values.
-    pub(crate) fn values(&self) -> Values
-        ensures values { operands_of_values result ≡ operand_values (operand_cells_of self.now) }
+    pub(crate) fn values(&self) -> Operands
+        ensures values { operands_of result ≡ operand_values (operand_cells_of self.now) }
     {
-        Values {
+        Operands {
             rs1: self.rs1.value,
             rs2: self.rs2.value,
             word: word_value(&self.word),
@@ -81,27 +80,27 @@ impl OperandCells {
     }
 
     /// The tag of an operand.
-    fn source_tag(&self, source: Source) -> Tag
+    fn source_tag(&self, source: Operand) -> Tag
         ensures tag { result ≡ operand_tag (operand_cells_of self.now) (operand_of source) }
     {
         match source {
-            Source::Rs1 => self.rs1.tag,
-            Source::Rs2 => self.rs2.tag,
-            Source::Word => word_tag(&self.word),
-            Source::OldCsr => self.old_csr.tag,
+            Operand::Rs1 => self.rs1.tag,
+            Operand::Rs2 => self.rs2.tag,
+            Operand::Word => word_tag(&self.word),
+            Operand::OldCsr => self.old_csr.tag,
         }
     }
 
     /// The tag of a value by what flows into it: a move carries the tag, and what is computed is public where all operands are, else
     /// of many.
-    pub(crate) fn flow_tag(&self, flow: Inflow) -> Tag
+    pub(crate) fn flow_tag(&self, flow: Flow) -> Tag
         ensures tag { result ≡ machine_tag (operand_tag (operand_cells_of self.now)) (flow_of flow) }
     {
         match flow {
-            Inflow::Constant => Tag::Public,
-            Inflow::Moved(source) => self.source_tag(source),
-            Inflow::Computed(source) => computed(&self.source_tag(source)),
-            Inflow::Combined(first, second) => {
+            Flow::Constant => Tag::Public,
+            Flow::Moved(source) => self.source_tag(source),
+            Flow::Computed(source) => computed(&self.source_tag(source)),
+            Flow::Combined(first, second) => {
                 mixture(&self.source_tag(first), &self.source_tag(second))
             }
         }
@@ -117,7 +116,7 @@ impl Writer {
     }
 
     /// The tag of a write.
-    pub(crate) fn tag(&self, write: &LatchWrite) -> Tag
+    pub(crate) fn tag(&self, write: &Write) -> Tag
         ensures tag { result ≡ tag_by self.now (write_of write.now) }
     {
         match self {

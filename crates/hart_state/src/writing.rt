@@ -5,16 +5,16 @@ ghost use Rattle.hart_model.specs.declared.probe.Probe.{Probe as LogEntry};
 ghost use Rattle.hart_model.specs.HartState.{bases_of, hart_with_cell};
 ghost use Rattle.hart_model.specs.Writes.{probe_of_write};
 ghost use Rattle.hart_state.specs.PlaceBounds.{IsPlaceThere};
-ghost use Rattle.hart_state.specs.View.{write_of};
+ghost use Rattle.rv_effect.specs.View.{write_of};
 ghost use Rattle.hart_state.specs.WriterView.{after_writes_by};
 
-use crate::flow::LatchWrite;
 use crate::hart::Hart;
 use crate::registers::hart_number;
 use crate::writer::Writer;
 use hart_model::{Cell, Place};
 use leak_latch::probe_of;
 use probe_log::Keeper;
+use rv_effect::Write;
 
 impl Hart {
     /// Makes this the cell of a place that there is, with the entry that it makes, also where the value stays.
@@ -34,7 +34,7 @@ impl Hart {
     }
 
     /// One write of a latch, at its place, if it has one.
-    fn write_latch<K: Keeper>(&mut self, writer: &Writer, write: &LatchWrite, keeper: &mut K)
+    fn write_latch<K: Keeper>(&mut self, writer: &Writer, write: &Write, keeper: &mut K)
         requires room { 1 ≤ K.room_of keeper.old }
         ensures hart { self.new ≡ (after_writes_by writer.now (write_of write.now ∷ []) self.old).hart }
         ensures log { (log : List LogEntry) → K.stands keeper.old log →
@@ -57,7 +57,7 @@ impl Hart {
     pub(crate) fn write_from<K: Keeper>(
         &mut self,
         writer: &Writer,
-        writes: &[LatchWrite],
+        writes: &[Write],
         from: usize,
         keeper: &mut K,
     )

@@ -6,7 +6,7 @@ use Rattle.hart_model.specs.Writes.{HartAndProbes, after_writes}
 use Rattle.hart_model.specs.HartStep.{hart_step, loaded_writes}
 use Rattle.hart_state.specs.declared.writer.Writer.TheVariants.{Machine}
 use Rattle.hart_state.specs.Reached.{reached_bases}
-use Rattle.hart_state.specs.View.{write_of}
+use Rattle.rv_effect.specs.View.{write_of}
 use Rattle.hart_state.specs.WriterView.{tag_by, reaches_data, after_writes_by}
 use Rattle.hart_state.proofs.TakeAnswer.{take-parts, take-short, few-entries}
 use Rattle.hart_state.proofs.hart.Hart.answer_take.Goals as goal

@@ -3,7 +3,7 @@ use Rattle.std.proofs.Common.{◌≡◌, ◌+◌, List, ◌++◌, length, map, a
 use Rattle.isa_model.specs.Effect.{Write}
 use Rattle.hart_model.specs.declared.probe.Probe.{Probe as LogEntry}
 use Rattle.hart_model.specs.HartState.{HartState}
-use Rattle.hart_state.specs.View.{write_of}
+use Rattle.rv_effect.specs.View.{write_of}
 use Rattle.hart_state.specs.WriterView.{after_writes_by}
 use Rattle.hart_state.specs.UserDeed.{CanCount}
 use Rattle.hart_state.proofs.BesideWords.{count-stays}

@@ -2,23 +2,23 @@
 
 ghost use Rattle.std.specs.Prelude.{◌≡◌, ◌+◌, ◌<◌, ◌≤◌, [], ◌++◌, length, map, if◌then◌else◌};
 ghost use Rattle.isa_model.specs.Effect.{to as to_latch, to_reg, result as result_writes};
-ghost use Rattle.hart_state.specs.View.{flow_of, write_of};
+ghost use Rattle.rv_effect.specs.View.{flow_of, write_of};
 
-use crate::flow::{Inflow, LatchWrite};
+use crate::flow::{Flow, Write};
 use isa_model::{Latch, RegNo};
 use std::marker::Model;
 
 /// The writes of one instruction, at most six, the first one first.
 #[derive(Drop)]
 pub struct Writes {
-    items: [LatchWrite; 6],
+    items: [Write; 6],
     len: usize,
 }
 
 impl Model for Writes {
     ghost use Rattle.std.specs.Prelude.{◌≡◌, ◌≤◌, List, length, map, take};
     ghost use Rattle.isa_model.specs.Effect.{Write};
-    ghost use Rattle.hart_state.specs.View.{write_of};
+    ghost use Rattle.rv_effect.specs.View.{write_of};
 
     ghost Value = { List Write };
 
@@ -29,13 +29,13 @@ impl Model for Writes {
 
 impl Writes {
     /// No writes.
-    pub(crate) fn new() -> Writes
+    pub fn new() -> Writes
         ensures writes { result ≡ [] }
     {
-        let none = LatchWrite {
+        let none = Write {
             to: Latch::PortA,
             value: 0,
-            flow: Inflow::Constant,
+            flow: Flow::Constant,
         };
         Writes {
             items: [none; 6],
@@ -44,17 +44,17 @@ impl Writes {
     }
 
     /// The write of a latch after the others.
-    pub(crate) fn put(&mut self, to: Latch, value: u32, flow: Inflow)
+    pub fn put(&mut self, to: Latch, value: u32, flow: Flow)
         requires room { length self.old < 6 }
         ensures writes { self.new ≡ self.old ++ to_latch to value (flow_of flow) }
         ensures len { length self.new ≡ length self.old + 1 }
     {
-        self.items[self.len] = LatchWrite { to, value, flow };
+        self.items[self.len] = Write { to, value, flow };
         self.len += 1;
     }
 
     /// The write of a latch after the others, unless it is left out.
-    pub(crate) fn put_unless(&mut self, is_left_out: bool, to: Latch, value: u32, flow: Inflow)
+    pub fn put_unless(&mut self, is_left_out: bool, to: Latch, value: u32, flow: Flow)
         requires room { length self.old < 6 }
         ensures writes { self.new ≡ self.old ++ (if is_left_out then [] else to_latch to value (flow_of flow)) }
         ensures len { length self.new ≤ length self.old + 1 }
@@ -65,7 +65,7 @@ impl Writes {
     }
 
     /// The write of a latch after the others, if it is done.
-    pub(crate) fn put_if(&mut self, is_done: bool, to: Latch, value: u32, flow: Inflow)
+    pub fn put_if(&mut self, is_done: bool, to: Latch, value: u32, flow: Flow)
         requires room { length self.old < 6 }
         ensures writes { self.new ≡ self.old ++ (if is_done then to_latch to value (flow_of flow) else []) }
         ensures len { length self.new ≤ length self.old + 1 }
@@ -76,7 +76,7 @@ impl Writes {
     }
 
     /// The write of a register after the others, unless it is x0.
-    pub(crate) fn put_register(&mut self, rd: RegNo, value: u32, flow: Inflow)
+    pub fn put_register(&mut self, rd: RegNo, value: u32, flow: Flow)
         requires room { length self.old < 6 }
         ensures writes { self.new ≡ self.old ++ to_reg rd value (flow_of flow) }
         ensures len { length self.new ≤ length self.old + 1 }
@@ -87,7 +87,7 @@ impl Writes {
     }
 
     /// The writes of a result and a register after the others.
-    pub(crate) fn put_result(&mut self, rd: RegNo, value: u32, flow: Inflow)
+    pub fn put_result(&mut self, rd: RegNo, value: u32, flow: Flow)
         requires room { length self.old < 5 }
         ensures writes { self.new ≡ self.old ++ result_writes rd value (flow_of flow) }
         ensures len { length self.new ≤ length self.old + 2 }
@@ -97,7 +97,7 @@ impl Writes {
     }
 
     /// The writes as a slice.
-    pub(crate) fn as_slice(&self) -> &[LatchWrite]
+    pub fn as_slice(&self) -> &[Write]
         ensures writes { map write_of result.now ≡ self.now }
         ensures len { length result.now ≡ length self.now }
         ensures few { length result.now ≤ 6 }

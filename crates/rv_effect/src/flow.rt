@@ -2,32 +2,39 @@
 
 use isa_model::Latch;
 
-/// An operand of an instruction: the value of rs1 or of rs2, the memory word, or the old value of the CSR.
+/// An operand of an instruction.
 #[derive(Clone, Copy)]
-pub enum Source {
+pub enum Operand {
+    /// The value of register rs1.
     Rs1,
+    /// The value of register rs2.
     Rs2,
+    /// The memory word.
     Word,
+    /// The old value of the CSR.
     OldCsr,
 }
 
 /// Where a value comes from.
 #[derive(Clone, Copy)]
-pub enum Inflow {
+pub enum Flow {
     /// From no operand.
     Constant,
     /// It is an operand.
-    Moved(Source),
+    Moved(Operand),
     /// It is computed from an operand.
-    Computed(Source),
+    Computed(Operand),
     /// It is computed from two operands.
-    Combined(Source, Source),
+    Combined(Operand, Operand),
 }
 
 /// A write of a latch.
 #[derive(Clone, Copy)]
-pub struct LatchWrite {
+pub struct Write {
+    /// The latch that is written.
     pub to: Latch,
+    /// Its new value.
     pub value: u32,
-    pub flow: Inflow,
+    /// Where the value comes from.
+    pub flow: Flow,
 }

@@ -5,17 +5,16 @@ ghost use Rattle.isa_model.specs.declared.instr.Instr.{Instr};
 ghost use Rattle.isa_model.specs.Encoding.{IsInstr};
 ghost use Rattle.isa_model.specs.Arithmetic.{csr_result as csr_result_of};
 ghost use Rattle.isa_model.specs.Effect.{Constant, Moved, Rs1, csr_effect as effect_of_csr, csr_flow as csr_flow_of, is_csr_written as is_csr_written_by, is_mscratch as is_mscratch_of, effect_of as effect_of_instr};
-ghost use Rattle.hart_state.specs.View.{flow_of, next_of, optional_csr_write_of, operands_of_values};
+ghost use Rattle.rv_effect.specs.View.{flow_of, next_of, optional_csr_write_of, operands_of};
 ghost use Rattle.isa_model.specs.Effect.{GoesAligned};
-ghost use Rattle.hart_state.specs.EffectView.{effect_of_outcome};
+ghost use Rattle.rv_effect.specs.EffectView.{effect_value};
 
-use crate::effect::{Follow, RegisterWrite, Values};
-use crate::flow::{Inflow, Source};
+use crate::effect::{CsrWrite, Effect, Next, Operands};
+use crate::flow::{Flow, Operand};
 use crate::forms::{
-    add_upper_to_pc, branch, first_port, jump_by, jump_indirect, load, load_upper, next_address,
-    operate, operate_immediate, outcome, store,
+    add_upper_to_pc, branch, first_port, jump_by, jump_indirect, latch_effect, load, load_upper,
+    next_address, operate, operate_immediate, store,
 };
-use crate::outcome::Outcome;
 use crate::writes::Writes;
 use isa_model::{CsrOp, Instr, Latch, RegNo};
 
@@ -43,22 +42,22 @@ fn is_csr_written(op: CsrOp, number: u32) -> bool
 }
 
 /// Where the new value comes from that a register is an operand of.
-fn register_flow(op: CsrOp) -> Inflow
+fn register_flow(op: CsrOp) -> Flow
     ensures flow { flow_of result ≡ csr_flow_of op (Rs1 ∷ []) (Moved Rs1) }
 {
     match op {
-        CsrOp::Rw => Inflow::Moved(Source::Rs1),
-        _ => Inflow::Combined(Source::OldCsr, Source::Rs1),
+        CsrOp::Rw => Flow::Moved(Operand::Rs1),
+        _ => Flow::Combined(Operand::OldCsr, Operand::Rs1),
     }
 }
 
 /// Where the new value comes from that an immediate is an operand of.
-fn immediate_flow(op: CsrOp) -> Inflow
+fn immediate_flow(op: CsrOp) -> Flow
     ensures flow { flow_of result ≡ csr_flow_of op [] Constant }
 {
     match op {
-        CsrOp::Rw => Inflow::Constant,
-        _ => Inflow::Computed(Source::OldCsr),
+        CsrOp::Rw => Flow::Constant,
+        _ => Flow::Computed(Operand::OldCsr),
     }
 }
 
@@ -68,7 +67,7 @@ struct Change {
     csr: u16,
     is_written: bool,
     value: u32,
-    flow: Inflow,
+    flow: Flow,
 }
 
 /// Whether a CSR is the latch `mscratch`.
@@ -79,11 +78,11 @@ fn is_mscratch(csr: u16) -> bool
 }
 
 /// The write of a CSR other than `mscratch`, if it is written.
-fn register_write(change: &Change) -> Option<RegisterWrite>
+fn register_write(change: &Change) -> Option<CsrWrite>
     ensures write { optional_csr_write_of result ≡ (if change.now.is_written && not (is_mscratch_of change.now.csr) then Some (record { csr = change.now.csr; value = change.now.value; flow = flow_of change.now.flow }) else None) }
 {
     if change.is_written && !is_mscratch(change.csr) {
-        Some(RegisterWrite {
+        Some(CsrWrite {
             csr: change.csr,
             value: change.value,
             flow: change.flow,
@@ -94,26 +93,26 @@ fn register_write(change: &Change) -> Option<RegisterWrite>
 }
 
 /// A CSR instruction after other writes: the result and rd take the old value.
-fn change_csr(writes: Writes, rd: RegNo, old: u32, change: &Change, pc: u32) -> Outcome
+fn change_csr(writes: Writes, rd: RegNo, old: u32, change: &Change, pc: u32) -> Effect
     requires room { length writes < 2 }
-    ensures effect { effect_of_outcome result ≡ effect_of_csr writes rd change.now.csr pc old change.now.is_written change.now.value (flow_of change.now.flow) }
+    ensures effect { effect_value result ≡ effect_of_csr writes rd change.now.csr pc old change.now.is_written change.now.value (flow_of change.now.flow) }
 {
-    let from_old = Inflow::Moved(Source::OldCsr);
+    let from_old = Flow::Moved(Operand::OldCsr);
     let is_scratch_written = change.is_written && is_mscratch(change.csr);
     let mut writes = writes;
     writes.put_unless(rd.num() == 0, Latch::Res, old, from_old);
     writes.put_if(is_scratch_written, Latch::Scr, change.value, change.flow);
     writes.put_register(rd, old, from_old);
-    Outcome {
+    Effect {
         writes,
         csr: register_write(change),
-        next: Follow::Goes(next_address(pc)),
+        next: Next::Goes(next_address(pc)),
     }
 }
 
 /// A CSR instruction on a register.
-fn change_by_register(op: CsrOp, rd: RegNo, rs1: RegNo, csr: u16, pc: u32, o: &Values) -> Outcome
-    ensures effect { effect_of_outcome result ≡ effect_of_instr (Instr.Csr op rd rs1 csr) pc (operands_of_values o.now) }
+fn change_by_register(op: CsrOp, rd: RegNo, rs1: RegNo, csr: u16, pc: u32, o: &Operands) -> Effect
+    ensures effect { effect_value result ≡ effect_of_instr (Instr.Csr op rd rs1 csr) pc (operands_of o.now) }
 {
     let change = Change {
         csr,
@@ -125,8 +124,8 @@ fn change_by_register(op: CsrOp, rd: RegNo, rs1: RegNo, csr: u16, pc: u32, o: &V
 }
 
 /// A CSR instruction on an immediate.
-fn change_by_immediate(op: CsrOp, rd: RegNo, uimm: u8, csr: u16, pc: u32, o: &Values) -> Outcome
-    ensures effect { effect_of_outcome result ≡ effect_of_instr (Instr.CsrImm op rd uimm csr) pc (operands_of_values o.now) }
+fn change_by_immediate(op: CsrOp, rd: RegNo, uimm: u8, csr: u16, pc: u32, o: &Operands) -> Effect
+    ensures effect { effect_value result ≡ effect_of_instr (Instr.CsrImm op rd uimm csr) pc (operands_of o.now) }
 {
     let operand = u32::from(uimm);
     let change = Change {
@@ -139,9 +138,9 @@ fn change_by_immediate(op: CsrOp, rd: RegNo, uimm: u8, csr: u16, pc: u32, o: &Va
 }
 
 /// What an instruction does, by its form.
-fn effect_by_form(instr: &Instr, pc: u32, o: &Values) -> Outcome
+fn effect_by_form(instr: &Instr, pc: u32, o: &Operands) -> Effect
     requires valid { IsInstr instr.now }
-    ensures effect { effect_of_outcome result ≡ effect_of_instr instr.now pc (operands_of_values o.now) }
+    ensures effect { effect_value result ≡ effect_of_instr instr.now pc (operands_of o.now) }
 {
     match instr {
         Instr::Lui { rd, imm20 } => load_upper(*rd, *imm20, pc, o),
@@ -158,10 +157,10 @@ fn effect_by_form(instr: &Instr, pc: u32, o: &Values) -> Outcome
         } => store(*kind, *rs2, *rs1, *imm, pc, o),
         Instr::AluImm { op, rd, rs1, imm } => operate_immediate(*op, *rd, *rs1, *imm, pc, o),
         Instr::AluReg { op, rd, rs1, rs2 } => operate(*op, *rd, *rs1, *rs2, pc, o),
-        Instr::Fence { word: _ } => outcome(Writes::new(), Follow::Goes(next_address(pc))),
-        Instr::Ecall => outcome(Writes::new(), Follow::Calls),
-        Instr::Ebreak => outcome(Writes::new(), Follow::Raises(3)),
-        Instr::Mret => outcome(Writes::new(), Follow::Returns),
+        Instr::Fence { word: _ } => latch_effect(Writes::new(), Next::Goes(next_address(pc))),
+        Instr::Ecall => latch_effect(Writes::new(), Next::Calls),
+        Instr::Ebreak => latch_effect(Writes::new(), Next::Raises(3)),
+        Instr::Mret => latch_effect(Writes::new(), Next::Returns),
         Instr::Csr { op, rd, rs1, csr } => change_by_register(*op, *rd, *rs1, *csr, pc, o),
         Instr::CsrImm { op, rd, uimm, csr } => change_by_immediate(*op, *rd, *uimm, *csr, pc, o),
     }
@@ -169,10 +168,10 @@ fn effect_by_form(instr: &Instr, pc: u32, o: &Values) -> Outcome
 
 /// What an instruction at `pc` does by the values of its operands: the latches that it writes, in order, the CSR that it writes, and
 /// what follows.
-pub(crate) fn effect_of(instr: &Instr, pc: u32, o: &Values) -> Outcome
+pub fn effect_of(instr: &Instr, pc: u32, o: &Operands) -> Effect
     requires valid { IsInstr instr.now }
     requires aligned { pc % 4 ≡ 0 }
-    ensures effect { effect_of_outcome result ≡ effect_of_instr instr.now pc (operands_of_values o.now) }
+    ensures effect { effect_value result ≡ effect_of_instr instr.now pc (operands_of o.now) }
     ensures aligned { GoesAligned (next_of result.next) }
 {
     effect_by_form(instr, pc, o)

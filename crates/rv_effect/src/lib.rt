@@ -1,0 +1,20 @@
+//! The effect of an instruction by its operands: the latches that it writes, in order, each with its value and with what flows into
+//! it, the CSR that it writes, and what follows. Every machine that runs instructions takes it from here. None of it takes memory.
+#![tactic(auto)]
+
+mod csr_forms;
+mod effect;
+mod flow;
+mod forms;
+mod operands;
+mod writes;
+
+pub use csr_forms::effect_of;
+pub use effect::{CsrWrite, Effect, Next, Operands};
+pub use flow::{Flow, Operand, Write};
+pub use forms::{latch_effect, next_address};
+pub use operands::{
+    address_of, code_word, first_register, immediate_bits, is_data_address, is_privileged,
+    load_size, second_register, store_size, zero_register,
+};
+pub use writes::Writes;
