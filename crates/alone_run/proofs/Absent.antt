@@ -39,4 +39,5 @@ value-absent T m v latches.Res h absent = cc
 value-absent T m v latches.Load h absent = cc
 value-absent T m v latches.Store h absent = cc
 value-absent T m v latches.Scr h absent = refl
+value-absent T m v latches.Mul h absent = cc
 value-absent T m v (latches.Mem at) h absent = outside T m.memory at h.data_at h.data_len absent

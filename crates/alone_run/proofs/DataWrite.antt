@@ -75,6 +75,7 @@ value_written m v at word aligned within h latches.Res = h latches.Res
 value_written m v at word aligned within h latches.Load = h latches.Load
 value_written m v at word aligned within h latches.Store = h latches.Store
 value_written m v at word aligned within h latches.Scr = h latches.Scr
+value_written m v at word aligned within h latches.Mul = h latches.Mul
 
 pub data-written : (T : Task) (m : Latches) (v : Latch → ℕ) (at word : ℕ) → IsSome (data_word m.memory at) → Holds T m v
     → Holds T (record m { memory = with_data_word at word m.memory }) (with_value (latches.Mem (word_address at)) word v)

@@ -16,6 +16,7 @@ latch_value m latches.Res = m.res
 latch_value m latches.Load = m.load
 latch_value m latches.Store = m.store
 latch_value m latches.Scr = 0
+latch_value m latches.Mul = m.mul
 latch_value m (latches.Mem at) = if at % 4 == 0 then unwrap_or (data_word m.memory at) 0 else 0
 
 -- whether a task has a latch: it lacks x0, mscratch, and an address that isn't the one of a data word

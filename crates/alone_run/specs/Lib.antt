@@ -2,6 +2,6 @@ pub mod DataWords
 pub mod OutputWords
 pub mod LatchValues
 pub mod StandsFor
-pub mod Moment
+pub mod RunPosition
 pub mod IsAt
 pub mod Whole

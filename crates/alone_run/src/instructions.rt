@@ -63,6 +63,7 @@ pub(crate) fn operate(machine: &mut Machine, op: Alu, rd: RegNo, rs1: RegNo, rs2
 {
     let (first, second) = both_operands(machine, rs1, rs2);
     let value = alu(op, first, second);
+    machine.latches.write_multiplied(op, value);
     give_result(machine, rd, value)
 }
 

@@ -4,14 +4,16 @@ ghost use Rattle.std.specs.Prelude.{◌≡◌, ℕ, IsSome};
 ghost use Rattle.isa_model.specs.declared.task.Task.{Task};
 ghost use Rattle.isa_model.specs.declared.latch.Latch.{Latch};
 ghost use Rattle.isa_model.specs.Bits.{word_address};
-ghost use Rattle.isa_model.specs.Effect.{Flow, to_reg};
+ghost use Rattle.isa_model.specs.Effect.{Flow, multiplier, to_reg};
 ghost use Rattle.isa_model.specs.Alone.{with_value, values_after, data_word_at};
 ghost use Rattle.alone_run.specs.DataWords.{data_word};
 
 use crate::data::Data;
-use isa_model::{Latch, RegNo};
+use isa_model::{Alu, Latch, RegNo};
+use rv_exec::is_of_multiplier;
 
-/// The values of the latches that a task can write: registers, operand ports, result, last loaded and last stored word, data.
+/// The values of the latches that a task can write: registers, operand ports, result, last loaded and last stored word, the
+/// multiplier's result, data.
 #[derive(Drop)]
 pub(crate) struct Latches {
     pub regs: [u32; 32],
@@ -20,6 +22,7 @@ pub(crate) struct Latches {
     pub res: u32,
     pub load: u32,
     pub store: u32,
+    pub mul: u32,
     pub memory: Data,
 }
 
@@ -38,6 +41,7 @@ impl Latches {
             Latch::Load => self.load,
             Latch::Store => self.store,
             Latch::Scr => 0,
+            Latch::Mul => self.mul,
             Latch::Mem(at) => {
                 if at % 4 == 0 {
                     self.memory.get(at).unwrap_or(0)
@@ -89,6 +93,16 @@ impl Latches {
         ensures memory { self.new.memory ≡ self.old.memory }
     {
         self.store = value;
+    }
+
+    /// Writes the result of an operation, where it is one of the multiplier.
+    pub(crate) fn write_multiplied(&mut self, op: Alu, value: u32)
+        ensures held { (T : Task) (v : Latch → ℕ) (flow : Flow) → Holds T self.old v →
+            Holds T self.new (values_after (multiplier op value flow) v) }
+    {
+        if is_of_multiplier(op) {
+            self.mul = value;
+        }
     }
 
     /// Writes a register, but for x0, which stays 0.

@@ -14,6 +14,3 @@ mod services;
 
 pub use isa_model::{Control, Deed, End, EndKind, Latch, Task, Words};
 pub use running::{Alone, Ended, run_alone};
-
-#[cfg(test)]
-mod tests;

@@ -31,9 +31,9 @@ pub struct Alone {
 }
 
 impl Model for Alone {
-    ghost use Rattle.alone_run.specs.Moment.{Moment};
+    ghost use Rattle.alone_run.specs.RunPosition.{RunPosition};
 
-    ghost Value = { Moment };
+    ghost Value = { RunPosition };
 
     ghost use Rattle.alone_run.specs.IsAt.{IsAt};
 
@@ -87,6 +87,7 @@ fn first_latches(alloc: Global, task: &Task) -> Result<Latches, AllocError>
         res: 0,
         load: 0,
         store: 0,
+        mul: 0,
         memory: Data::new(alloc, task.data_at, task.data_len)?,
     })
 }

@@ -16,6 +16,3 @@ pub use done::Done;
 pub use hart_model::{Cell, Tag};
 pub use isa_model::{End, Task, Words};
 pub use words::{SlotWords, slot_words};
-
-#[cfg(test)]
-mod tests;

@@ -8,6 +8,3 @@ mod fields;
 pub use csrs::Csrs;
 pub use hart_model::{Cell, Tag};
 pub use mem_protect::{Mode, Pmp};
-
-#[cfg(test)]
-mod tests;

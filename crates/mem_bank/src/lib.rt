@@ -5,6 +5,3 @@ mod bank;
 
 pub use bank::Bank;
 pub use hart_model::{Cell, Tag};
-
-#[cfg(test)]
-mod tests;

@@ -8,6 +8,3 @@ mod region;
 
 pub use hart_model::{Access, Mode};
 pub use pmp::Pmp;
-
-#[cfg(test)]
-mod tests;

@@ -6,6 +6,3 @@ pub mod shown;
 pub use hart_model::{Probe, Side, Why};
 pub use isa_model::{Latch, Task, Words};
 pub use shown::{Shown, explain};
-
-#[cfg(test)]
-mod tests;

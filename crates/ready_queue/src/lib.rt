@@ -12,6 +12,3 @@ pub use board::Board;
 pub use context_slot::{Body, Context, Done};
 pub use core_model::Home;
 pub use kind::Kind;
-
-#[cfg(test)]
-mod tests;

@@ -2,6 +2,6 @@
 use Rattle.std.specs.Prelude.{ℕ}
 use Rattle.isa_model.specs.declared.task.Task.{Task}
 
-pub record Moment : Type 0 where
+pub record RunPosition : Type 0 where
   pub task : Task
   pub count : ℕ
