@@ -16,6 +16,3 @@ pub use bundle::{Bundle, BundleFault, BundleKind, Code, Line, PlanText, TaskText
 pub use core_model::Items;
 pub use reading::read_bundle;
 pub use writing::write_bundle;
-
-#[cfg(test)]
-mod tests;

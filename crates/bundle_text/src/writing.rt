@@ -302,6 +302,3 @@ pub fn write_bundle(alloc: Global, bundle: &Bundle) -> Result<Vec<u8>, AllocErro
     add_order(bundle.order.as_slice(), &mut out)?;
     Ok(out)
 }
-
-#[cfg(test)]
-mod tests;

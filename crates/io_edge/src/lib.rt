@@ -12,6 +12,3 @@ pub use memory::{MemSink, MemSource};
 pub use std_edge::{StdSink, StdSource};
 pub use traits::{Failed, FreeGate, Gate, Sink, Source};
 pub use whole::{ReadEnd, WriteEnd, read_all, write_all};
-
-#[cfg(test)]
-mod tests;

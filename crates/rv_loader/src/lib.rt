@@ -14,6 +14,3 @@ pub use core_model::Loaded;
 pub use fault::{LoadFault, What};
 pub use laws::{loading_is_sound, loads_exactly_valid, plans_are_of_lines, refusals_are_so};
 pub use loading::load;
-
-#[cfg(test)]
-mod tests;

@@ -10,6 +10,3 @@ pub use core_model::{Event, EventRun, OrderRun, Plan, Quanta};
 pub use order::order_text;
 pub use pace::Pace;
 pub use token::{TokenFault, event_run, order_run};
-
-#[cfg(test)]
-mod tests;

@@ -11,8 +11,6 @@ mod passes;
 mod plays;
 mod rule;
 mod seat_view;
-#[cfg(test)]
-mod tests;
 mod turn_taking;
 mod turned;
 mod turns;
