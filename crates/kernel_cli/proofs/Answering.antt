@@ -8,7 +8,7 @@ use Rattle.kernel_cli.specs.declared.command.Command.{Command}
 use Rattle.kernel_cli.specs.declared.status.Status.{Status}
 use Rattle.kernel_cli.specs.declared.status.Status.TheVariants.{Fine, BadWords, BadInput, ReadFault, WriteFault, Memory, LogFull}
 use Rattle.bundle_text.specs.Lines.{bundle_of}
-use Rattle.kernel_cli.specs.declared.answer.Made.{Made}
+use Rattle.kernel_cli.specs.declared.answer.Response.{Response}
 use Rattle.kernel_cli.specs.declared.answer.Outcome.{Outcome}
 use Rattle.kernel_cli.specs.declared.answer.Outcome.TheVariants as outcomes
 use Rattle.kernel_cli.specs.Outcome.{status_of, IsAnswer}
@@ -90,33 +90,33 @@ of_answer outcomes.BadInput = OfAnswer (λ e. cc) (λ e. cc) (λ e. cc) (λ e. c
 of_answer outcomes.LogFull = OfAnswer (λ e. cc) (λ e. cc) (λ e. cc) (λ e. cc)
 
 -- the answer was written with its status
-answer_written : (command : Command) (bytes : List ℕ) (left held held' : Option (List ℕ)) (made : Made) (status asked : Status)
-    → WereLeft bytes left → IsAnswer made (answer_of (Some command) bytes) → status ≡ status_of made.outcome → Appends held held' made.text.items
+answer_written : (command : Command) (bytes : List ℕ) (left held held' : Option (List ℕ)) (response : Response) (status asked : Status)
+    → WereLeft bytes left → IsAnswer response (answer_of (Some command) bytes) → status ≡ status_of response.outcome → Appends held held' response.text.items
     → status ≡ asked → Answers (Some command) asked left held held'
-answer_written command bytes left held held' made status asked were is written appends e =
+answer_written command bytes left held held' response status asked were is written appends e =
     let P : List ℕ → Type 0 = λ text. Appends held held' text in
     (bytes, were, sym is.status ∙ sym written ∙ e, subst P is.text appends)
 
-answer_begun : (command : Command) (bytes : List ℕ) (left held held' : Option (List ℕ)) (made : Made) → WereLeft bytes left
-    → IsAnswer made (answer_of (Some command) bytes) → AppendsPart held held' made.text.items → BeginsToAnswer (Some command) left held held'
-answer_begun command bytes left held held' made were is part =
+answer_begun : (command : Command) (bytes : List ℕ) (left held held' : Option (List ℕ)) (response : Response) → WereLeft bytes left
+    → IsAnswer response (answer_of (Some command) bytes) → AppendsPart held held' response.text.items → BeginsToAnswer (Some command) left held held'
+answer_begun command bytes left held held' response were is part =
     let P : List ℕ → Type 0 = λ text. AppendsPart held held' text in (bytes, were, subst P is.text part)
 
 -- The answer was written, or a part of it.
 pub answered_made : {S K : Type 0} (left : S → Option (List ℕ)) (read_faults : S → ℕ) (held : K → Option (List ℕ)) (write_faults : K → ℕ)
-    (command : Command) (src src' : S) (sink sink' : K) (status : Status) (bytes : List ℕ) (made : Made)
+    (command : Command) (src src' : S) (sink sink' : K) (status : Status) (bytes : List ℕ) (response : Response)
     → WereLeft bytes (left src) → length bytes ≤ input_limit → IsAtEnd (left src')
     → ConsumesAtMost (left src) (left src') (input_limit + 1)
-    → IsAnswer made (bundle_answer command (bundle_of bytes))
-    → WritesOrFails (status_of made.outcome) (held sink) (held sink') (write_faults sink) (write_faults sink') made.text.items status
+    → IsAnswer response (bundle_answer command (bundle_of bytes))
+    → WritesOrFails (status_of response.outcome) (held sink) (held sink') (write_faults sink) (write_faults sink') response.text.items status
     → AreScriptsSound
     → IsAnswered left read_faults held write_faults (Some command) src src' sink sink' status
-answered_made left read_faults held write_faults command src src' sink sink' status bytes made were within end taken is (inl w) sound =
-    let P : Answer → Type 0 = λ answer. IsAnswer made answer in
-    let whole : IsAnswer made (answer_of (Some command) bytes) = subst P (sym (is_answered_by_bundle command bytes within)) is in
-    by_kind (of_answer made.outcome) (λ asked e. answer_written command bytes (left src) (held sink) (held sink') made status asked were whole w.0 w.1 e)
+answered_made left read_faults held write_faults command src src' sink sink' status bytes response were within end taken is (inl w) sound =
+    let P : Answer → Type 0 = λ answer. IsAnswer response answer in
+    let whole : IsAnswer response (answer_of (Some command) bytes) = subst P (sym (is_answered_by_bundle command bytes within)) is in
+    by_kind (of_answer response.outcome) (λ asked e. answer_written command bytes (left src) (held sink) (held sink') response status asked were whole w.0 w.1 e)
   where
-    by_kind : IsOfAnswer (status_of made.outcome) → ((asked : Status) → status ≡ asked → Answers (Some command) asked (left src) (held sink) (held sink'))
+    by_kind : IsOfAnswer (status_of response.outcome) → ((asked : Status) → status ≡ asked → Answers (Some command) asked (left src) (held sink) (held sink'))
         → IsAnswered left read_faults held write_faults (Some command) src src' sink sink' status
     by_kind (OfAnswer no_words no_read no_write no_memory) written = record {
       refused = λ e. absurd cc;
@@ -130,9 +130,9 @@ answered_made left read_faults held write_faults command src src' sink sink' sta
       scripts_sound = λ runs e any loaded were_left loads. sound any loaded loads;
       taken = taken;
     }
-answered_made left read_faults held write_faults command src src' sink sink' status bytes made were within end taken is (inr w) sound =
-    let P : Answer → Type 0 = λ answer. IsAnswer made answer in
-    let whole : IsAnswer made (answer_of (Some command) bytes) = subst P (sym (is_answered_by_bundle command bytes within)) is in
+answered_made left read_faults held write_faults command src src' sink sink' status bytes response were within end taken is (inr w) sound =
+    let P : Answer → Type 0 = λ answer. IsAnswer response answer in
+    let whole : IsAnswer response (answer_of (Some command) bytes) = subst P (sym (is_answered_by_bundle command bytes within)) is in
     record {
       refused = λ e. absurd cc;
       bad_words = λ e. absurd cc;
@@ -140,7 +140,7 @@ answered_made left read_faults held write_faults command src src' sink sink' sta
       bad_input = λ e. absurd cc;
       log_full = λ e. absurd cc;
       read_fault = λ e. absurd cc;
-      write_fault = λ e. (w.1, answer_begun command bytes (left src) (held sink) (held sink') made were whole w.2, λ _. inl end);
+      write_fault = λ e. (w.1, answer_begun command bytes (left src) (held sink) (held sink') response were whole w.2, λ _. inl end);
       memory = λ e. absurd cc;
       scripts_sound = λ runs. no_script (λ e. absurd cc) (λ e. absurd cc);
       taken = taken;

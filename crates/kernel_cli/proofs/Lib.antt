@@ -1,6 +1,6 @@
 pub mod CommandWords
 pub mod CoreFacts
-pub mod FewEntries
+pub mod ScriptFits
 pub mod Playing
 pub mod Reporting
 pub mod FullLogs

@@ -14,7 +14,7 @@ use Rattle.core_model.specs.Limits.{max_harts}
 use Rattle.core_model.specs.Loaded.{IsEventRunWithinLimits}
 use Rattle.core_model.specs.Core.{CoreState, boot_core, after_event, core_from}
 use Rattle.kernel_core.specs.Running.{entries_of}
-use Rattle.kernel_core.specs.Told.{Told, CoreValue, IsCoreOf, given}
+use Rattle.kernel_core.specs.History.{History, CoreValue, IsCoreOf, given}
 use Rattle.kernel_cli.specs.Scripts.{entries_each, is_log_above, is_script_above}
 use Rattle.kernel_cli.specs.Playing.{told_of, core_by, IsPlayed, StandsBefore}
 use Rattle.kernel_cli.proofs.CoreFacts.{without_log, from_append, event_log, events_harts, boot_harts, events_order}
@@ -123,7 +123,7 @@ module _ {K : Type 0} (stands : K → List Probe → Type 0) (room_of : K → �
   -- an event is applied
   goes_on : (most : ℕ) (loaded : Loaded) (event : Event) (left : List Event) (c after : CoreValue K) → StandsBefore stands room_of most loaded (event ∷ left) c
       → entries_each ≤ room_of c.log.keeper
-      → ((t : Told) → IsCoreOf t c → IsCoreOf (given t event) after)
+      → ((t : History) → IsCoreOf t c → IsCoreOf (given t event) after)
       → ((before : List Probe) → stands c.log.keeper before → stands after.log.keeper (before ++ entries_of c.run event))
       → after.run.actions ≡ c.run.actions
       → room_of after.log.keeper + length (entries_of c.run event) ≡ room_of c.log.keeper
@@ -172,7 +172,7 @@ module _ {K : Type 0} (stands : K → List Probe → Type 0) (room_of : K → �
 
   pub run_goes_on : (most : ℕ) (loaded : Loaded) (n : ℕ) (event : Event) (rest : List Event) (c after : CoreValue K) → 0 < n
       → StandsBefore stands room_of most loaded (replicate n event ++ rest) c → entries_each ≤ room_of c.log.keeper
-      → ((t : Told) → IsCoreOf t c → IsCoreOf (given t event) after)
+      → ((t : History) → IsCoreOf t c → IsCoreOf (given t event) after)
       → ((before : List Probe) → stands c.log.keeper before → stands after.log.keeper (before ++ entries_of c.run event))
       → after.run.actions ≡ c.run.actions
       → room_of after.log.keeper + length (entries_of c.run event) ≡ room_of c.log.keeper

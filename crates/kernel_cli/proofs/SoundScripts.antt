@@ -3,8 +3,8 @@ use Rattle.std.proofs.Common.{ℕ, ◌<◌, ◌^◌, ◌-◌, List, length, take
 use Rattle.core_model.specs.declared.loaded.Loaded.{Loaded}
 use Rattle.core_model.specs.Events.{events_of}
 use Rattle.core_model.specs.Loaded.{IsLoaded}
-use Rattle.core_laws.specs.KernelStates.{emitted_parts}
-use Rattle.core_laws.specs.Laws.{CoreStaysSound, OutputsStayBeginnings, EachTaskHasOneHome, EmittedIsKernel}
+use Rattle.core_invariant.specs.KernelStates.{emitted_parts}
+use Rattle.core_invariant.specs.Laws.{CoreStaysSound, OutputsStayBeginnings, EachTaskHasOneHome, EmittedIsKernel}
 use Rattle.bundle_text.proofs.DraftRanges.{bundle_range}
 use Rattle.rv_loader.specs.Valid.{LoadingIsSound}
 use Rattle.kernel_cli.specs.Soundness.{LoadAs, AreScriptsSound}

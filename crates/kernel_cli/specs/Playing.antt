@@ -6,12 +6,12 @@ use Rattle.core_model.specs.declared.loaded.Loaded.{Loaded}
 use Rattle.core_model.specs.Events.{events_of}
 use Rattle.core_model.specs.KernelWords.{kernel_code}
 use Rattle.core_model.specs.Core.{CoreState, core_after}
-use Rattle.core_laws.specs.KernelStates.{emitted_parts}
-use Rattle.kernel_core.specs.Told.{Told, CoreValue, IsCoreOf}
+use Rattle.core_invariant.specs.KernelStates.{emitted_parts}
+use Rattle.kernel_core.specs.History.{History, CoreValue, IsCoreOf}
 use Rattle.kernel_cli.specs.Scripts.{entries_each, is_log_above, is_script_above}
 
 -- these events of a loaded bundle, under the kernel's own code, and the core after them
-abbrev pub told_of : Loaded → List Event → Told
+abbrev pub told_of : Loaded → List Event → History
 told_of loaded events = record { loaded = loaded; kernel = emitted_parts; events = events }
 
 abbrev pub core_by : Loaded → List Event → CoreState

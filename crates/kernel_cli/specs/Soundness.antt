@@ -4,9 +4,9 @@ use Rattle.core_model.specs.declared.loaded.Loaded.{Loaded}
 use Rattle.core_model.specs.Events.{events_of}
 use Rattle.core_model.specs.KernelWords.{kernel_code}
 use Rattle.core_model.specs.Core.{CoreState, core_after}
-use Rattle.core_model.specs.Invariant.{IsCoreSound}
-use Rattle.core_laws.specs.Homes.{HasExactHomes}
-use Rattle.core_laws.specs.Outputs.{AreOutputsSound}
+use Rattle.core_model.specs.Soundness.{IsCoreSound}
+use Rattle.core_invariant.specs.Homes.{HasExactHomes}
+use Rattle.core_invariant.specs.Outputs.{AreOutputsSound}
 use Rattle.bundle_text.specs.declared.bundle.Bundle.{Bundle}
 use Rattle.bundle_text.specs.Lines.{bundle_of}
 use Rattle.rv_loader.specs.Loading.{loading_of}

@@ -45,28 +45,28 @@ pub(crate) fn status_of(outcome: Outcome) -> Status
 
 /// The answer to a command that reads its input, with all of its text.
 #[derive(Debug, Drop)]
-pub(crate) struct Made {
+pub(crate) struct Response {
     pub(crate) outcome: Outcome,
     pub(crate) text: Vec<u8>,
 }
 
 /// The command is done, with this text.
-fn done(text: Vec<u8>) -> Made
+fn done(text: Vec<u8>) -> Response
     ensures answer { IsAnswer result (done text.items) }
 {
-    Made {
+    Response {
         outcome: Outcome::Fine,
         text,
     }
 }
 
 /// The answer of a text that a log was kept for, or that the log has no room.
-fn logged(alloc: Global, text: Option<Vec<u8>>) -> Result<Made, AllocError>
-    ensures answer { IfOk result (λ made. IsAnswer made (answer_of_text (option_map (λ text. text.items) text))) }
+fn logged(alloc: Global, text: Option<Vec<u8>>) -> Result<Response, AllocError>
+    ensures answer { IfOk result (λ response. IsAnswer response (answer_of_text (option_map (λ text. text.items) text))) }
 {
     match text {
         Some(text) => Ok(done(text)),
-        None => Ok(Made {
+        None => Ok(Response {
             outcome: Outcome::LogFull,
             text: b"log full\n".to_vec(alloc)?,
         }),
@@ -74,10 +74,10 @@ fn logged(alloc: Global, text: Option<Vec<u8>>) -> Result<Made, AllocError>
 }
 
 /// The answer to a command over a loaded bundle.
-fn answer_loaded(alloc: Global, command: Command, loaded: &Loaded) -> Result<Made, AllocError>
+fn answer_loaded(alloc: Global, command: Command, loaded: &Loaded) -> Result<Response, AllocError>
     requires loaded { IsLoaded loaded.now }
     requires harts { loaded.now.harts ≡ harts }
-    ensures answer { IfOk result (λ made. IsAnswer made (command_answer command loaded.now)) }
+    ensures answer { IfOk result (λ response. IsAnswer response (command_answer command loaded.now)) }
 {
     match command {
         Command::Alone => {
@@ -92,14 +92,14 @@ fn answer_loaded(alloc: Global, command: Command, loaded: &Loaded) -> Result<Mad
 }
 
 /// The answer to a command over a bundle.
-fn answer_bundle(alloc: Global, command: Command, bundle: &Bundle) -> Result<Made, AllocError>
+fn answer_bundle(alloc: Global, command: Command, bundle: &Bundle) -> Result<Response, AllocError>
     requires range { IsInRange bundle.now }
-    ensures answer { IfOk result (λ made. IsAnswer made (loaded_answer command (loading_of bundle.now harts))) }
+    ensures answer { IfOk result (λ response. IsAnswer response (loaded_answer command (loading_of bundle.now harts))) }
 {
     match load(alloc, bundle, HARTS) {
         Ok(loaded) => answer_loaded(alloc, command, &loaded),
         Err(LoadFault::Memory) => Err(AllocError),
-        Err(fault) => Ok(Made {
+        Err(fault) => Ok(Response {
             outcome: Outcome::BadInput,
             text: load_refusal(alloc, &fault)?.into_bytes(),
         }),
@@ -107,9 +107,9 @@ fn answer_bundle(alloc: Global, command: Command, bundle: &Bundle) -> Result<Mad
 }
 
 /// The answer to a command over input within the limit.
-pub(crate) fn answer(alloc: Global, command: Command, bytes: &[u8]) -> Result<Made, AllocError>
+pub(crate) fn answer(alloc: Global, command: Command, bytes: &[u8]) -> Result<Response, AllocError>
     requires limit { length bytes.now ≤ input_limit }
-    ensures answer { IfOk result (λ made. IsAnswer made (bundle_answer command (bundle_of bytes.now))) }
+    ensures answer { IfOk result (λ response. IsAnswer response (bundle_answer command (bundle_of bytes.now))) }
 {
     match read_bundle(alloc, bytes) {
         Ok(bundle) => answer_bundle(alloc, command, &bundle),
@@ -117,7 +117,7 @@ pub(crate) fn answer(alloc: Global, command: Command, bytes: &[u8]) -> Result<Ma
             if fault.kind == BundleKind::Memory {
                 return Err(AllocError);
             }
-            Ok(Made {
+            Ok(Response {
                 outcome: Outcome::BadInput,
                 text: bundle_refusal(alloc, &fault)?.into_bytes(),
             })

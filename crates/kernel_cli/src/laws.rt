@@ -6,7 +6,7 @@ ghost use Rattle.kernel_cli.specs.Scripts.{LogIsFullExactly};
 ghost use Rattle.kernel_cli.specs.Soundness.{AreScriptsSound};
 ghost use Rattle.kernel_cli.specs.declared.command.Command.{Command};
 
-use core_laws::{
+use core_invariant::{
     core_stays_sound, each_task_has_one_home, emitted_is_kernel, outputs_stay_beginnings,
 };
 use rv_loader::loading_is_sound;

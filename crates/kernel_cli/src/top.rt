@@ -5,7 +5,7 @@ ghost use Rattle.kernel_cli.specs.Commands.{command_of};
 ghost use Rattle.kernel_cli.specs.Outcome.{status_of};
 ghost use Rattle.kernel_cli.specs.TopCall.{WritesOrFails, IsAnswered};
 
-use crate::answer::{Made, answer, status_of};
+use crate::answer::{Response, answer, status_of};
 use crate::command::{Command, read_words};
 use crate::laws::scripts_are_sound;
 use crate::status::Status;
@@ -28,10 +28,10 @@ fn put<K: Sink>(sink: &mut K, text: &[u8], status: Status) -> Status
 }
 
 /// Writes an answer and ends with its status, or with a write fault.
-fn put_answer<K: Sink>(sink: &mut K, made: &Made) -> Status
-    ensures written { WritesOrFails (status_of made.now.outcome) (K.held sink.old) (K.held sink.new) (K.faults sink.old) (K.faults sink.new) made.now.text.items result }
+fn put_answer<K: Sink>(sink: &mut K, response: &Response) -> Status
+    ensures written { WritesOrFails (status_of response.now.outcome) (K.held sink.old) (K.held sink.new) (K.faults sink.old) (K.faults sink.new) response.now.text.items result }
 {
-    put(sink, made.text.as_slice(), status_of(made.outcome))
+    put(sink, response.text.as_slice(), status_of(response.outcome))
 }
 
 /// Does a command over the bundle that the source gives.
@@ -50,7 +50,7 @@ fn do_command<S: Source, K: Sink>(
         Err(ReadEnd::TooLarge) => put(sink, b"too large\n", Status::BadInput),
         Ok(bytes) => match answer(alloc, command, bytes.as_slice()) {
             Err(_) => Status::Memory,
-            Ok(made) => put_answer(sink, &made),
+            Ok(response) => put_answer(sink, &response),
         },
     }
 }

@@ -8,14 +8,14 @@ use Rattle.hart_model.specs.Context.{BodyState, fresh_body}
 use Rattle.hart_model.specs.HartState.{HartState, boot_hart}
 use Rattle.core_model.specs.Core.{bodies_from, harts_from, core_from}
 use Rattle.probe_log.specs.Counts.{counts_of}
-use Rattle.kernel_core.specs.Told.{CoreValue, IsCoreOf, told_at_boot}
+use Rattle.kernel_core.specs.History.{CoreValue, IsCoreOf, history_at_boot}
 use Rattle.core_model.specs.declared.loaded.Loaded.{Loaded}
 use Rattle.core_model.specs.Board.{BoardState, BoardWithSpare, boot_board}
 use Rattle.core_model.specs.Loaded.{IsLoaded}
-use Rattle.core_laws.specs.KernelStates.{KernelParts, IsKernel}
-use Rattle.core_laws.specs.Kept.{IsCoreKept}
-use Rattle.core_laws.proofs.Boot.{each_valid, boot-kept}
-use Rattle.core_laws.proofs.Proved.{kernel-harts}
+use Rattle.core_invariant.specs.KernelStates.{KernelParts, IsKernel}
+use Rattle.core_invariant.specs.Invariant.{IsCoreKept}
+use Rattle.core_invariant.proofs.Boot.{each_valid, boot-kept}
+use Rattle.core_invariant.proofs.Proved.{kernel-harts}
 use Rattle.context_slot.specs.Fresh.{IsFresh}
 use Rattle.kernel_core.specs.Kernels.{IsWholeKernel}
 use Rattle.kernel_core.specs.Running.{IsRunKept, beyond}
@@ -87,7 +87,7 @@ module _ (loaded : Loaded) (is : IsLoaded loaded) where
 -- a core with such a board and such harts, and with nothing counted, was told nothing yet
 pub told-boot : {K : Type 0} (loaded : Loaded) (k : KernelParts) (c : CoreValue K) → IsLoaded loaded → IsWholeKernel k → c.run.kernel ≡ k → c.tasks ≡ length loaded.tasks
     → c.run.board.lists ≡ boot_board loaded.slots (bodies_from 0 loaded.tasks) → c.run.harts ≡ harts_from 0 loaded.harts k.code.take → c.log.tally ≡ counts_of []
-    → IsCoreOf (told_at_boot loaded k) c
+    → IsCoreOf (history_at_boot loaded k) c
 unfolding core_from
 told-boot loaded k c is_loaded is_kernel kernel tasks board harts counts =
     record { is_loaded = is_loaded; is_kernel = is_kernel; kernel = kernel; tasks = tasks; board = board; harts = harts; counts = counts }

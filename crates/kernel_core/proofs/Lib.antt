@@ -2,7 +2,7 @@ pub mod LinkedKernel
 pub mod Wanted
 pub mod RunFacts
 pub mod RunAfter
-pub mod ToldMore
+pub mod HistoryMore
 pub mod Counting
 pub mod Booted
 pub mod Reported

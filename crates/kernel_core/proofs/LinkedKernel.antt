@@ -12,11 +12,11 @@ use Rattle.hart_model.specs.MachineStep.{kernel_address}
 use Rattle.core_model.specs.KernelText.{x0, x5}
 use Rattle.core_model.specs.KernelWords.{kernel_words, linked_words}
 use Rattle.core_model.specs.Routines.{Saves, Restores, SavesValues, SavesExplained, SavesAlike, RestoresValues, RestoresExplained, RestoresAlike, part_limit, before_restore_limit}
-use Rattle.abstract_run.specs.SymbolicPath.{StandAt, HasInstrAt}
-use Rattle.abstract_run.proofs.Stand.{AreWordsOf, stand-at}
+use Rattle.symbolic_run.specs.SymbolicPath.{StandAt, HasInstrAt}
+use Rattle.symbolic_run.proofs.Stand.{AreWordsOf, stand-at}
 use Rattle.switch_emit.specs.Linked.{branch_over, middle_words, last_words}
 use Rattle.switch_emit.proofs.LinkedWords.{linked_words-is, take-is}
-use Rattle.core_laws.specs.KernelStates.{IsLinked, IsKernel, IsAlikeKernel, linked_parts, middle_instrs, middle_len, middle_at, restore_at, mret_at, idle_at}
+use Rattle.core_invariant.specs.KernelStates.{IsLinked, IsKernel, IsAlikeKernel, linked_parts, middle_instrs, middle_len, middle_at, restore_at, mret_at, idle_at}
 use Rattle.kernel_core.specs.Kernels.{IsWholeKernel}
 
 -- the branch to the idle loop, over a restore part of so many words

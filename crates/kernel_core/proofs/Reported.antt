@@ -7,7 +7,7 @@ use Rattle.core_model.specs.Core.{CoreState}
 use Rattle.probe_log.specs.Counts.{Counts}
 use Rattle.kernel_core.specs.declared.snapshot.Snapshot.{Snapshot}
 use Rattle.kernel_core.specs.Running.{RunValue, IsRunKept, core_of_run}
-use Rattle.kernel_core.specs.Told.{Told, CoreValue, IsCoreOf, core_of}
+use Rattle.kernel_core.specs.History.{History, CoreValue, IsCoreOf, core_of}
 use Rattle.kernel_core.specs.SnapshotNow.{snapshot_now}
 use Rattle.kernel_core.specs.declared.snapshot.TaskState.{TaskState}
 use Rattle.kernel_core.specs.Snapshots.{state_of, states_from, snapshot_of}
@@ -31,7 +31,7 @@ states-same c first zero = refl
 states-same c first (suc count) = ap (λ ss. state_of c first ∷ ss) (states-same c (first + 1) count)
 
 -- A snapshot of a core that was told something is the snapshot of what it was told.
-pub snapshot-told : {K : Type 0} (t : Told) (c : CoreValue K) → IsCoreOf t c → snapshot_now c ≡ snapshot_of (length t.loaded.tasks) (core_of t)
+pub snapshot-told : {K : Type 0} (t : History) (c : CoreValue K) → IsCoreOf t c → snapshot_now c ≡ snapshot_of (length t.loaded.tasks) (core_of t)
 snapshot-told t c is =
     let full : CoreState = core_of t in
     let bare : CoreState = record { board = full.board; harts = full.harts; log = [] } in

@@ -6,7 +6,7 @@ use Rattle.core_model.specs.declared.action.Action.{Action}
 use Rattle.core_model.specs.declared.loaded.Loaded.{Loaded}
 use Rattle.core_model.specs.Board.{BoardWithSpare}
 use Rattle.core_model.specs.Core.{CoreAndAction, after_tick, without_action}
-use Rattle.kernel_core.specs.Going.{gone_of, IsGone}
+use Rattle.kernel_core.specs.BoardStep.{board_step_of, IsAfterBoardStep}
 use Rattle.kernel_core.specs.Running.{RunValue, IsRunKept, IsAfterEvent, core_of_run, event_on, entries_of}
 use Rattle.kernel_core.proofs.RunFacts.{go-so, kept-after}
 
@@ -21,7 +21,7 @@ abbrev pub with_board_and_hart : RunValue → BoardWithSpare → ℕ → HartSta
 with_board_and_hart r b number h = record { board = b; harts = set r.harts number h; kernel = r.kernel; actions = r.actions }
 
 module _ (r : RunValue) (number : ℕ) (h : HartState) (is : slice_get r.harts number ≡ Some h) where
-  module _ (b : BoardWithSpare) (g : HartState) (action : Option Action) (gone : IsGone (gone_of r.kernel.code.words r.board.lists number h) b.lists g action) where
+  module _ (b : BoardWithSpare) (g : HartState) (action : Option Action) (gone : IsAfterBoardStep (board_step_of r.kernel.code.words r.board.lists number h) b.lists g action) where
     pub after-go : IsAfterEvent r (with_board_and_hart r b number g) (Go number)
     after-go =
         let so = go-so r number h is in
@@ -35,7 +35,7 @@ module _ (r : RunValue) (number : ℕ) (h : HartState) (is : slice_get r.harts n
     pub action-of-go : action ≡ (event_on r (Go number)).action
     action-of-go = gone.action_is ∙ sym (go-so r number h is).action_is
 
-  pub entries-of-go : entries_of r (Go number) ≡ (gone_of r.kernel.code.words r.board.lists number h).probes
+  pub entries-of-go : entries_of r (Go number) ≡ (board_step_of r.kernel.code.words r.board.lists number h).probes
   entries-of-go = (go-so r number h is).log
 
   pub after-tick-of : (g : HartState) → g ≡ tick_of h → IsAfterEvent r (with_board_and_hart r r.board number g) (Tick number)
@@ -48,7 +48,7 @@ module _ (r : RunValue) (number : ℕ) (h : HartState) (is : slice_get r.harts n
         actions = refl;
       }
 
-  pub kept-go : (b : BoardWithSpare) (g : HartState) (action : Option Action) → IsGone (gone_of r.kernel.code.words r.board.lists number h) b.lists g action
+  pub kept-go : (b : BoardWithSpare) (g : HartState) (action : Option Action) → IsAfterBoardStep (board_step_of r.kernel.code.words r.board.lists number h) b.lists g action
       → length b.lists.order + b.spare ≡ length r.board.lists.order + r.board.spare → (loaded : Loaded) → IsRunKept loaded r
       → IsRunKept loaded (with_board_and_hart r b number g)
   kept-go b g action gone room loaded run =

@@ -19,23 +19,18 @@ use Rattle.core_model.specs.Board.{BoardState}
 use Rattle.ready_queue.specs.declared.kind.Kind.{Kind}
 use Rattle.ready_queue.specs.declared.kind.Kind.TheVariants.{Ready, Done}
 use Rattle.ready_queue.specs.Gives.{HasNothingOut}
-use Rattle.core_laws.specs.KernelStates.{KernelParts, IsKernel}
-use Rattle.core_laws.specs.Kept.{IsCoreKept, HeldCountFits}
-use Rattle.core_laws.specs.OneHart.{EachHart}
-use Rattle.core_laws.proofs.Proved.{kernel-harts}
-use Rattle.core_laws.proofs.CountFits.{count-fits}
-use Rattle.core_laws.proofs.Actions.{may-take, may-give-ready, may-give-done}
-use Rattle.core_laws.proofs.OutFits.{out-fits}
-use Rattle.core_laws.proofs.Boot.{each_valid}
-use Rattle.core_laws.proofs.Composition.{event-kept}
-use Rattle.kernel_core.specs.Going.{Gone, gone_of, gone_by, gone_by_give_ready, gone_by_give_done, gone_by_end, GivesKind, MayGive, CanGo}
+use Rattle.core_invariant.proofs.Items.{set-same}
+use Rattle.core_invariant.specs.KernelStates.{KernelParts, IsKernel}
+use Rattle.core_invariant.specs.Invariant.{IsCoreKept, HeldCountFits}
+use Rattle.core_invariant.specs.OneHart.{EachHart}
+use Rattle.core_invariant.proofs.Proved.{kernel-harts}
+use Rattle.core_invariant.proofs.CountFits.{count-fits}
+use Rattle.core_invariant.proofs.Actions.{may-take, may-give-ready, may-give-done}
+use Rattle.core_invariant.proofs.OutFits.{out-fits}
+use Rattle.core_invariant.proofs.Boot.{each_valid}
+use Rattle.core_invariant.proofs.Composition.{event-kept}
+use Rattle.kernel_core.specs.BoardStep.{BoardStep, board_step_of, board_step_by, board_step_by_give_ready, board_step_by_give_done, board_step_by_end, GivesKind, MayGive, CanGo}
 use Rattle.kernel_core.specs.Running.{RunValue, IsRunKept, IsAfterEvent, core_of_run, event_on}
-
--- a list with the element at an index put there again
-pub set-same : {X : Type 0} (xs : List X) (i : ℕ) (x : X) → slice_get xs i ≡ Some x → set xs i x ≡ xs
-set-same [] i x is = refl
-set-same (y ∷ xs) zero x is = ap (λ z. z ∷ xs) (sym (cc is))
-set-same (y ∷ xs) (suc i) x is = ap (λ zs. y ∷ zs) (set-same xs i x is)
 
 count_fits : (held : Option ContextState) → HeldCountFits held → CanCount held
 count_fits None fits = tt
@@ -101,7 +96,7 @@ without-log k loaded c kept = record {
 }
 
 -- what a step leaves, as what the event makes of the core
-pub record IsEventOf (r : RunValue) (number : ℕ) (g : Gone) (after : CoreAndAction) : Type 0 where
+pub record IsEventOf (r : RunValue) (number : ℕ) (g : BoardStep) (after : CoreAndAction) : Type 0 where
   pub board : after.core.board ≡ g.board
   pub harts : after.core.harts ≡ set r.harts number g.hart
   pub log : after.core.log ≡ g.probes
@@ -112,21 +107,21 @@ stays-so r number h is = sym (set-same r.harts number h is)
 
 module _ (r : RunValue) (number : ℕ) (h : HartState) (is : slice_get r.harts number ≡ Some h) where
   give-ready-so : (begun : List CellWrite) (rd next : ℕ) (held : Option ContextState)
-      → IsEventOf r number (gone_by_give_ready r.board.lists number h begun next held) (after_call (core_of_run r) number h GiveReady begun rd next held)
+      → IsEventOf r number (board_step_by_give_ready r.board.lists number h begun next held) (after_call (core_of_run r) number h GiveReady begun rd next held)
   give-ready-so begun rd next None = record { board = refl; harts = stays-so r number h is; log = refl; action_is = refl }
   give-ready-so begun rd next (Some c) = record { board = refl; harts = refl; log = refl; action_is = refl }
 
   end-so : (begun : List CellWrite) (next : ℕ) (c : ContextState) (end : Option End)
-      → IsEventOf r number (gone_by_end r.board.lists number h begun next c end) (after_give_done (core_of_run r) number h begun next c end)
+      → IsEventOf r number (board_step_by_end r.board.lists number h begun next c end) (after_give_done (core_of_run r) number h begun next c end)
   end-so begun next c None = record { board = refl; harts = stays-so r number h is; log = refl; action_is = refl }
   end-so begun next c (Some end) = record { board = refl; harts = refl; log = refl; action_is = refl }
 
   give-done-so : (begun : List CellWrite) (rd next : ℕ) (held : Option ContextState)
-      → IsEventOf r number (gone_by_give_done r.board.lists number h begun next held) (after_call (core_of_run r) number h GiveDone begun rd next held)
+      → IsEventOf r number (board_step_by_give_done r.board.lists number h begun next held) (after_call (core_of_run r) number h GiveDone begun rd next held)
   give-done-so begun rd next None = record { board = refl; harts = stays-so r number h is; log = refl; action_is = refl }
   give-done-so begun rd next (Some c) = end-so begun next c c.end
 
-  step-so : (step : StepResult) → IsEventOf r number (gone_by r.board.lists number h step) (after_step (core_of_run r) number h step)
+  step-so : (step : StepResult) → IsEventOf r number (board_step_by r.board.lists number h step) (after_step (core_of_run r) number h step)
   step-so (Steps hart probes did) = record { board = refl; harts = refl; log = refl; action_is = refl }
   step-so (Wants Take begun rd next) = record { board = refl; harts = refl; log = refl; action_is = refl }
   step-so (Wants GiveReady begun rd next) = give-ready-so begun rd next h.held
@@ -134,9 +129,9 @@ module _ (r : RunValue) (number : ℕ) (h : HartState) (is : slice_get r.harts n
   step-so Wedged = record { board = refl; harts = stays-so r number h is; log = refl; action_is = refl }
 
   -- What the step leaves is what the event makes of the core.
-  pub go-so : IsEventOf r number (gone_of r.kernel.code.words r.board.lists number h) (event_on r (Go number))
+  pub go-so : IsEventOf r number (board_step_of r.kernel.code.words r.board.lists number h) (event_on r (Go number))
   go-so =
-      let P : Option HartState → Type 0 = λ o. IsEventOf r number (gone_of r.kernel.code.words r.board.lists number h) (after_go r.kernel.code.words (core_of_run r) number o) in
+      let P : Option HartState → Type 0 = λ o. IsEventOf r number (board_step_of r.kernel.code.words r.board.lists number h) (after_go r.kernel.code.words (core_of_run r) number o) in
       subst P (sym is) (step-so (hart_step r.kernel.code.words h))
 
 -- After an event the core is kept.

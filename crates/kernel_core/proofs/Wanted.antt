@@ -6,7 +6,7 @@ use Rattle.hart_model.specs.declared.calls.QueueCall.TheVariants.{Take, GiveRead
 use Rattle.hart_model.specs.StepResult.{StepResult, Steps, Wants, Wedged, did_of, probes_of}
 use Rattle.hart_state.specs.Asked.{AsksFor, AsksGive}
 use Rattle.ready_queue.specs.declared.kind.Kind.TheVariants.{Ready, Done}
-use Rattle.kernel_core.specs.Going.{GivesKind}
+use Rattle.kernel_core.specs.BoardStep.{GivesKind}
 
 pub no-entries : (call : QueueCall) (step : StepResult) → AsksFor call step → probes_of step ≡ []
 no-entries call (Wants wanted begun rd next) asks = refl

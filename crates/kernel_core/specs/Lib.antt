@@ -1,7 +1,7 @@
 pub mod Kernels
 pub mod Counted
 pub mod Running
-pub mod Going
-pub mod Told
+pub mod BoardStep
+pub mod History
 pub mod Snapshots
 pub mod SnapshotNow

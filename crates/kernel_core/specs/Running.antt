@@ -7,8 +7,8 @@ use Rattle.core_model.specs.declared.loaded.Loaded.{Loaded}
 use Rattle.core_model.specs.Board.{BoardWithSpare}
 use Rattle.core_model.specs.Core.{CoreState, CoreAndAction, event_result}
 use Rattle.core_model.specs.Loaded.{IsLoaded}
-use Rattle.core_laws.specs.KernelStates.{KernelParts, IsKernel}
-use Rattle.core_laws.specs.Kept.{IsCoreKept}
+use Rattle.core_invariant.specs.KernelStates.{KernelParts, IsKernel}
+use Rattle.core_invariant.specs.Invariant.{IsCoreKept}
 
 -- the board with its spare, the harts, the kernel, and how many queue actions there may be
 pub record RunValue : Type 0 where

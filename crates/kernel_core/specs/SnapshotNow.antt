@@ -3,7 +3,7 @@ use Rattle.std.specs.Prelude.{length}
 use Rattle.kernel_core.specs.declared.snapshot.Snapshot.{Snapshot}
 use Rattle.kernel_core.specs.Running.{core_of_run}
 use Rattle.kernel_core.specs.Snapshots.{states_from}
-use Rattle.kernel_core.specs.Told.{CoreValue}
+use Rattle.kernel_core.specs.History.{CoreValue}
 
 abbrev pub snapshot_now : {K : Type 0} → CoreValue K → Snapshot
 snapshot_now c = record {

@@ -5,13 +5,13 @@ ghost use Rattle.std.specs.List.{AllByRecursion};
 ghost use Rattle.isa_model.specs.TaskPlaces.{IsValidTask};
 ghost use Rattle.core_model.specs.Core.{bodies_from, harts_from};
 ghost use Rattle.core_model.specs.Loaded.{IsLoaded};
-ghost use Rattle.core_laws.specs.KernelStates.{emitted_parts};
-ghost use Rattle.kernel_core.specs.Told.{IsCoreOf, told_at_boot};
+ghost use Rattle.core_invariant.specs.KernelStates.{emitted_parts};
+ghost use Rattle.kernel_core.specs.History.{IsCoreOf, history_at_boot};
 
 use crate::counted::Counted;
 use crate::kernel::Kernel;
-use crate::logged::Core;
 use crate::run::Run;
+use crate::whole_core::Core;
 use core_model::Loaded;
 use hart_state::Hart;
 use isa_model::Task;
@@ -65,7 +65,7 @@ impl<K: Keeper> Core<K> {
         kernel: Kernel,
     ) -> Result<Core<K>, AllocError>
         requires loaded { IsLoaded loaded.now }
-        ensures told { IfOk result (λ core. IsCoreOf (told_at_boot loaded.now kernel) core) }
+        ensures told { IfOk result (λ core. IsCoreOf (history_at_boot loaded.now kernel) core) }
         ensures keeper { IfOk result (λ core. core.log.keeper ≡ keeper) }
         ensures actions { IfOk result (λ core. core.run.actions ≡ actions) }
     {
@@ -96,7 +96,7 @@ impl<K: Keeper> Core<K> {
         actions: u64,
     ) -> Result<Core<K>, AllocError>
         requires loaded { IsLoaded loaded.now }
-        ensures told { IfOk result (λ core. IsCoreOf (told_at_boot loaded.now emitted_parts) core) }
+        ensures told { IfOk result (λ core. IsCoreOf (history_at_boot loaded.now emitted_parts) core) }
         ensures keeper { IfOk result (λ core. core.log.keeper ≡ keeper) }
         ensures actions { IfOk result (λ core. core.run.actions ≡ actions) }
     {

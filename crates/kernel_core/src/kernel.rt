@@ -3,7 +3,7 @@
 ghost use Rattle.std.specs.Prelude.{◌≡◌, ◌≤◌, length, IfOk};
 ghost use Rattle.core_model.specs.KernelWords as definition;
 ghost use Rattle.core_model.specs.Routines.{Saves, Restores};
-ghost use Rattle.core_laws.specs.KernelStates.{emitted_parts, linked_parts};
+ghost use Rattle.core_invariant.specs.KernelStates.{emitted_parts, linked_parts};
 
 use std::alloc::{AllocError, Global};
 use std::marker::Model;
@@ -19,7 +19,7 @@ pub struct Kernel {
 }
 
 impl Model for Kernel {
-    ghost use Rattle.core_laws.specs.KernelStates.{KernelParts};
+    ghost use Rattle.core_invariant.specs.KernelStates.{KernelParts};
     ghost use Rattle.kernel_core.specs.Kernels.{IsWholeKernel};
 
     ghost Value = { KernelParts };

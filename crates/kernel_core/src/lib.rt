@@ -1,18 +1,15 @@
 //! Many harts over one queue, and what holds of them after every list of events.
 #![tactic(auto)]
 
+mod board_step;
 mod boot;
 mod counted;
-mod going;
 mod kernel;
-mod logged;
 mod reporting;
 mod run;
 pub mod snapshot;
+mod whole_core;
 
 pub use kernel::Kernel;
-pub use logged::Core;
 pub use snapshot::{Snapshot, TaskState};
-
-#[cfg(test)]
-mod tests;
+pub use whole_core::Core;

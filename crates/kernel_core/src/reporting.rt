@@ -5,11 +5,11 @@ ghost use Rattle.core_model.specs.declared.home.Home.TheVariants as homes;
 ghost use Rattle.kernel_core.specs.Running.{core_of_run};
 ghost use Rattle.kernel_core.specs.Snapshots.{waiting_state, live_state, ended_state, state_of_context, held_by, state_of, states_from, snapshot_of};
 ghost use Rattle.kernel_core.specs.SnapshotNow.{snapshot_now};
-ghost use Rattle.kernel_core.specs.Told.{Told, IsCoreOf, core_of};
+ghost use Rattle.kernel_core.specs.History.{History, IsCoreOf, core_of};
 
-use crate::logged::Core;
 use crate::run::Run;
 use crate::snapshot::{Snapshot, TaskState};
+use crate::whole_core::Core;
 use core_model::{Home, Items};
 use isa_model::Words;
 use probe_log::Keeper;
@@ -131,7 +131,7 @@ impl<K: Keeper> Core<K> {
     /// the core was made. A task's end is there exactly where its home is `Ended`. `AllocError` is want of memory.
     pub fn snapshot(&self, alloc: Global) -> Result<Snapshot, AllocError>
         ensures snapshot { IfOk result (λ s. s ≡ snapshot_now self.now) }
-        ensures told { (t : Told) → IsCoreOf t self.now → snapshot_now self.now ≡ snapshot_of (length t.loaded.tasks) (core_of t) }
+        ensures told { (t : History) → IsCoreOf t self.now → snapshot_now self.now ≡ snapshot_of (length t.loaded.tasks) (core_of t) }
     {
         self.shown(alloc)
     }

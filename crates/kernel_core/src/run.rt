@@ -6,7 +6,7 @@ ghost use Rattle.core_model.specs.declared.event.Event.TheVariants as events;
 ghost use Rattle.core_model.specs.Events.{hart_of};
 ghost use Rattle.kernel_core.specs.Running.{IsAfterEvent, event_on, entries_of};
 
-use crate::going::go;
+use crate::board_step::go;
 use crate::kernel::Kernel;
 use core_model::{Action, Event};
 use hart_state::Hart;

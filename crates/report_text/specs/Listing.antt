@@ -15,14 +15,14 @@ side_name Was = codes "was"
 side_name Now = codes "now"
 
 -- a task, a number of instructions, and a latch
-abbrev pub moment_text : ℕ → ℕ → Latch → List ℕ
-moment_text task step latch = decimal task ++ (codes " " ++ (decimal step ++ (codes " " ++ latch_name latch)))
+abbrev pub tag_text : ℕ → ℕ → Latch → List ℕ
+tag_text task step latch = decimal task ++ (codes " " ++ (decimal step ++ (codes " " ++ latch_name latch)))
 
 -- what explains an entry
 abbrev pub why_text : Why → List ℕ
 why_text Public = codes "public"
-why_text (Value task step latch side) = codes "value " ++ (moment_text task step latch ++ (codes " " ++ side_name side))
-why_text (Step task step latch) = codes "step " ++ moment_text task step latch
+why_text (Value task step latch side) = codes "value " ++ (tag_text task step latch ++ (codes " " ++ side_name side))
+why_text (Step task step latch) = codes "step " ++ tag_text task step latch
 why_text Unexplained = codes "unexplained"
 
 -- the hart, the address of the instruction, the latch, its values before and after, and what explains them

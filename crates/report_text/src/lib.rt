@@ -14,6 +14,3 @@ pub use asm_listing::asm_text;
 pub use explanations::explain_text;
 pub use log_listing::listing;
 pub use snapshot_report::{order_line, report};
-
-#[cfg(test)]
-mod tests;

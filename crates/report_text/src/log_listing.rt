@@ -1,7 +1,7 @@
 //! The listing of a log.
 
 ghost use Rattle.std.specs.Prelude.{◌≡◌, ◌++◌, OnOk, IfOk};
-ghost use Rattle.report_text.specs.Listing.{side_name, moment_text, why_text, entry_text, entry_line, listing_of};
+ghost use Rattle.report_text.specs.Listing.{side_name, tag_text, why_text, entry_text, entry_line, listing_of};
 
 use crate::append::{add, add_count, add_decimal, add_word};
 use leak_latch::{Side, latch_text};
@@ -19,8 +19,8 @@ fn side_name(side: Side) -> &'static [u8]
 }
 
 /// Appends a task's number, a number of instructions and a latch.
-fn add_moment(task: u32, step: u32, latch: Latch, out: &mut Vec<u8>) -> Result<(), AllocError>
-    ensures ok { OnOk result (out.new.items ≡ out.old.items ++ moment_text task step latch) }
+fn add_tag(task: u32, step: u32, latch: Latch, out: &mut Vec<u8>) -> Result<(), AllocError>
+    ensures ok { OnOk result (out.new.items ≡ out.old.items ++ tag_text task step latch) }
 {
     add_decimal(u64::from(task), out)?;
     add_count(b" ", u64::from(step), out)?;
@@ -41,13 +41,13 @@ fn add_why(why: &Why, out: &mut Vec<u8>) -> Result<(), AllocError>
             side,
         } => {
             add(b"value ", out)?;
-            add_moment(task, step, latch, out)?;
+            add_tag(task, step, latch, out)?;
             add(b" ", out)?;
             add(side_name(side), out)
         }
         Why::Step { task, step, latch } => {
             add(b"step ", out)?;
-            add_moment(task, step, latch, out)
+            add_tag(task, step, latch, out)
         }
         Why::Unexplained => add(b"unexplained", out),
     }

@@ -2,7 +2,7 @@
 use Rattle.std.proofs.Common.{◌≡◌, ◌-◌, ◌∙◌, true, false, is_none, sym, ap, arith}
 use Rattle.probe_log.specs.Counts.{counts_left}
 use Rattle.kernel_cli.specs.Scripts.{is_script_above}
-use Rattle.kernel_cli.proofs.FewEntries.{script_fits}
+use Rattle.kernel_cli.proofs.ScriptFits.{script_fits}
 use Rattle.kernel_cli.proofs.scripts.script.Goals as goal
 
 pub unreachable-requires : goal.unreachable-requires

@@ -18,10 +18,10 @@ returns g c =
     let len = c.as_slice.ensures.len in
     let limit = c.in-Ok.ensures.within in
     let within : length c.in-Ok.bytes.items ≤ 4194304 = omega arith in
-    let P : List ℕ → Type 0 = λ bytes. IsAnswer c.in-Ok-answer.made (bundle_answer c.args.command (bundle_of bytes)) in
+    let P : List ℕ → Type 0 = λ bytes. IsAnswer c.in-Ok-answer.response (bundle_answer c.args.command (bundle_of bytes)) in
     let answer = subst P value c.in-Ok-answer.ensures.answer in
     record {
-      answered = answered_made g.S.Source.left g.S.Source.faults g.K.Sink.held g.K.Sink.faults _ _ _ _ _ _ c.in-Ok.bytes.items c.in-Ok-answer.made
+      answered = answered_made g.S.Source.left g.S.Source.faults g.K.Sink.held g.K.Sink.faults _ _ _ _ _ _ c.in-Ok.bytes.items c.in-Ok-answer.response
           c.in-Ok.ensures.all within c.in-Ok.ensures.end c.read_all.ensures.taken answer c.put_answer.ensures.written
           c.scripts_are_sound.ensures.sound;
     }

@@ -1,8 +1,8 @@
 -- The emitted kernel is a kernel, on two harts that are alike too.
 use Rattle.std.proofs.Common.{sym, subst}
 use Rattle.core_model.specs.KernelWords.{KernelCodeState}
-use Rattle.core_laws.proofs.Proved.{emitted-is-kernel}
-use Rattle.alike_laws.proofs.EmittedAlike.{emitted-alike}
+use Rattle.core_invariant.proofs.Proved.{emitted-is-kernel}
+use Rattle.noninterference.proofs.EmittedAlike.{emitted-alike}
 use Rattle.kernel_core.specs.Kernels.{IsWholeKernel}
 use Rattle.kernel_core.proofs.kernel.Kernel.emitted.Goals as goal
 

@@ -3,7 +3,7 @@ use Rattle.std.proofs.Common.{◌≡◌, ◌<◌, ◌+◌, ◌++◌, ◌∙◌, 
 use Rattle.hart_model.specs.declared.probe.Probe.{Probe as LogEntry}
 use Rattle.core_model.specs.declared.event.Event.TheVariants as events
 use Rattle.core_model.specs.KernelWords.{KernelCodeState}
-use Rattle.kernel_core.specs.Going.{CanGo, IsGone, gone_of}
+use Rattle.kernel_core.specs.BoardStep.{CanGo, IsAfterBoardStep, board_step_of}
 use Rattle.kernel_core.specs.Running.{RunValue, IsAfterEvent, event_on, entries_of}
 use Rattle.kernel_core.proofs.RunFacts.{can-go}
 use Rattle.kernel_core.proofs.RunAfter.{index-is, with_board_and_hart, after-go, action-of-go, entries-of-go, kept-go}
@@ -24,7 +24,7 @@ invariant_of-self g c =
     let r : RunValue = record { board = c.self.inside.board; harts = c.self.inside.harts.items; kernel = c.self.inside.kernel; actions = c.self.inside.actions } in
     let low = subst (λ (v : RunValue). c.args.number < length v.harts) (sym c.self.view_is) c.requires.hart in
     let is = index-is r.harts c.args.number c.index_mut-hart.result.now low c.index_mut-hart.ensures.value in
-    let G : List ℕ → Type 0 = λ code. IsGone (gone_of code r.board.lists c.args.number c.index_mut-hart.result.now) c.go.new.board.lists c.go.new.hart c.go.result in
+    let G : List ℕ → Type 0 = λ code. IsAfterBoardStep (board_step_of code r.board.lists c.args.number c.index_mut-hart.result.now) c.go.new.board.lists c.go.new.hart c.go.result in
     let words = c.as_slice-code.ensures.words ∙ ap (λ (k : KernelCodeState). k.words) (c.behind-self.view_is ∙ c.code.ensures.code) in (
       c.self.invariant.0,
       kept-go r c.args.number c.index_mut-hart.result.now is c.go.new.board c.go.new.hart c.go.result (subst G words c.go.ensures.gone) c.go.ensures.spare
@@ -36,7 +36,7 @@ returns-clause-after g c =
     let r : RunValue = record { board = c.self.inside.board; harts = c.self.inside.harts.items; kernel = c.self.inside.kernel; actions = c.self.inside.actions } in
     let low = subst (λ (v : RunValue). c.args.number < length v.harts) (sym c.self.view_is) c.requires.hart in
     let is = index-is r.harts c.args.number c.index_mut-hart.result.now low c.index_mut-hart.ensures.value in
-    let G : List ℕ → Type 0 = λ code. IsGone (gone_of code r.board.lists c.args.number c.index_mut-hart.result.now) c.go.new.board.lists c.go.new.hart c.go.result in
+    let G : List ℕ → Type 0 = λ code. IsAfterBoardStep (board_step_of code r.board.lists c.args.number c.index_mut-hart.result.now) c.go.new.board.lists c.go.new.hart c.go.result in
     let words = c.as_slice-code.ensures.words ∙ ap (λ (k : KernelCodeState). k.words) (c.behind-self.view_is ∙ c.code.ensures.code) in
     let P : RunValue → Type 0 = λ v. IsAfterEvent v (with_board_and_hart r c.go.new.board c.args.number c.go.new.hart) (events.Go c.args.number) in
     subst P c.self.view_is (after-go r c.args.number c.index_mut-hart.result.now is c.go.new.board c.go.new.hart c.go.result (subst G words c.go.ensures.gone))
@@ -46,7 +46,7 @@ returns-clause-action g c =
     let r : RunValue = record { board = c.self.inside.board; harts = c.self.inside.harts.items; kernel = c.self.inside.kernel; actions = c.self.inside.actions } in
     let low = subst (λ (v : RunValue). c.args.number < length v.harts) (sym c.self.view_is) c.requires.hart in
     let is = index-is r.harts c.args.number c.index_mut-hart.result.now low c.index_mut-hart.ensures.value in
-    let G : List ℕ → Type 0 = λ code. IsGone (gone_of code r.board.lists c.args.number c.index_mut-hart.result.now) c.go.new.board.lists c.go.new.hart c.go.result in
+    let G : List ℕ → Type 0 = λ code. IsAfterBoardStep (board_step_of code r.board.lists c.args.number c.index_mut-hart.result.now) c.go.new.board.lists c.go.new.hart c.go.result in
     let words = c.as_slice-code.ensures.words ∙ ap (λ (k : KernelCodeState). k.words) (c.behind-self.view_is ∙ c.code.ensures.code) in
     let P : RunValue → Type 0 = λ v. c.go.result ≡ (event_on v (events.Go c.args.number)).action in
     subst P c.self.view_is (action-of-go r c.args.number c.index_mut-hart.result.now is c.go.new.board c.go.new.hart c.go.result (subst G words c.go.ensures.gone))
@@ -57,7 +57,7 @@ returns-clause-log g c log stood =
     let low = subst (λ (v : RunValue). c.args.number < length v.harts) (sym c.self.view_is) c.requires.hart in
     let is = index-is r.harts c.args.number c.index_mut-hart.result.now low c.index_mut-hart.ensures.value in
     let words = c.as_slice-code.ensures.words ∙ ap (λ (k : KernelCodeState). k.words) (c.behind-self.view_is ∙ c.code.ensures.code) in
-    let E : List ℕ → List LogEntry = λ code. (gone_of code r.board.lists c.args.number c.index_mut-hart.result.now).probes in
+    let E : List ℕ → List LogEntry = λ code. (board_step_of code r.board.lists c.args.number c.index_mut-hart.result.now).probes in
     let same = ap E words ∙ sym (entries-of-go r c.args.number c.index_mut-hart.result.now is) ∙ ap (λ (v : RunValue). entries_of v (events.Go c.args.number)) c.self.view_is in
     let S : List LogEntry → Type 0 = λ entries. g.K.Keeper.stands c.go.new.keeper (log ++ entries) in
     subst S same (c.go.ensures.log log stood)
@@ -68,7 +68,7 @@ returns-clause-room g c =
     let low = subst (λ (v : RunValue). c.args.number < length v.harts) (sym c.self.view_is) c.requires.hart in
     let is = index-is r.harts c.args.number c.index_mut-hart.result.now low c.index_mut-hart.ensures.value in
     let words = c.as_slice-code.ensures.words ∙ ap (λ (k : KernelCodeState). k.words) (c.behind-self.view_is ∙ c.code.ensures.code) in
-    let E : List ℕ → List LogEntry = λ code. (gone_of code r.board.lists c.args.number c.index_mut-hart.result.now).probes in
+    let E : List ℕ → List LogEntry = λ code. (board_step_of code r.board.lists c.args.number c.index_mut-hart.result.now).probes in
     let same = ap E words ∙ sym (entries-of-go r c.args.number c.index_mut-hart.result.now is) ∙ ap (λ (v : RunValue). entries_of v (events.Go c.args.number)) c.self.view_is in
     let S : List LogEntry → Type 0 = λ entries. g.K.Keeper.room_of c.go.new.keeper + length entries ≡ g.K.Keeper.room_of c.args.keeper.now in
     subst S same c.go.ensures.room

@@ -4,11 +4,11 @@ use Rattle.hart_model.specs.Context.{BodyState}
 use Rattle.core_model.specs.KernelWords.{KernelCodeState}
 use Rattle.core_model.specs.Board.{boot_board}
 use Rattle.core_model.specs.Core.{bodies_from, harts_from}
-use Rattle.core_laws.specs.KernelStates.{KernelParts}
+use Rattle.core_invariant.specs.KernelStates.{KernelParts}
 use Rattle.ready_queue.specs.Bodies.{AreFreshFrom}
 use Rattle.kernel_core.specs.Kernels.{IsWholeKernel}
 use Rattle.kernel_core.proofs.Booted.{tasks-valid, bodies-least, bodies-most, bodies-fresh, run-kept, told-boot}
-use Rattle.kernel_core.proofs.logged.Core.boot_with.Goals as goal
+use Rattle.kernel_core.proofs.whole_core.Core.boot_with.Goals as goal
 
 pub bodies-requires-clause-valid : goal.bodies-requires-clause-valid
 bodies-requires-clause-valid g c =

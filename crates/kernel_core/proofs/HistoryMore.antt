@@ -12,12 +12,12 @@ use Rattle.core_model.specs.declared.event.Event.{Event}
 use Rattle.core_model.specs.declared.event.Event.TheVariants.{Go, Tick}
 use Rattle.core_model.specs.Board.{BoardState}
 use Rattle.core_model.specs.Core.{CoreState, CoreAndAction, event_result, after_event, after_go, after_step, after_call, after_give_done, after_tick, without_action}
-use Rattle.core_laws.proofs.Events.{core-more}
-use Rattle.core_laws.proofs.FromHarts.{stays-sound, outputs-stay, one-home-each}
-use Rattle.core_laws.proofs.Proved.{kernel-harts}
+use Rattle.core_invariant.proofs.Events.{core-more}
+use Rattle.core_invariant.proofs.FromHarts.{stays-sound, outputs-stay, one-home-each}
+use Rattle.core_invariant.proofs.Proved.{kernel-harts}
 use Rattle.probe_log.specs.Counts.{StandFor}
 use Rattle.kernel_core.specs.Running.{IsAfterEvent, core_of_run, event_on, entries_of}
-use Rattle.kernel_core.specs.Told.{Told, CoreValue, IsCoreOf, IsSoundCore, given, core_of}
+use Rattle.kernel_core.specs.History.{History, CoreValue, IsCoreOf, IsSoundCore, given, core_of}
 
 -- An event does the same whatever the log is, and its entries go to the end of the log.
 pub record IsSameBut (log : List Probe) (a b : CoreAndAction) : Type 0 where
@@ -68,7 +68,7 @@ module _ (code : List ℕ) (c : CoreState) where
   event-same (Tick hart) = tick-same hart (slice_get c.harts hart)
 
 -- A core that was told events, after one event more.
-module _ {K : Type 0} (t : Told) (event : Event) (c after : CoreValue K) (is : IsCoreOf t c) where
+module _ {K : Type 0} (t : History) (event : Event) (c after : CoreValue K) (is : IsCoreOf t c) where
   -- the core that was told, as the run's
   as-run : record (core_of t) { log = [] } ≡ core_of_run c.run
   as-run = sym (ap (λ (b : BoardState). record { board = b; harts = c.run.harts; log = [] }) is.board ∙ ap (λ (hs : List HartState). record { board = (core_of t).board; harts = hs; log = [] }) is.harts)

@@ -4,7 +4,7 @@ ghost use Rattle.std.specs.Prelude.{◌≡◌, ◌≤◌, ◌<◌, ◌+◌, ◌+
 ghost use Rattle.hart_model.specs.declared.probe.Probe.{Probe as LogEntry};
 ghost use Rattle.core_model.specs.Events.{hart_of};
 ghost use Rattle.kernel_core.specs.Running.{event_on, entries_of};
-ghost use Rattle.kernel_core.specs.Told.{Told, CoreValue, IsCoreOf, IsSoundCore, given};
+ghost use Rattle.kernel_core.specs.History.{History, CoreValue, IsCoreOf, IsSoundCore, given};
 
 use crate::counted::Counted;
 use crate::run::Run;
@@ -21,7 +21,7 @@ pub struct Core<K: Keeper> {
 }
 
 impl<K: Keeper> Model for Core<K> {
-    ghost use Rattle.kernel_core.specs.Told.{CoreValue};
+    ghost use Rattle.kernel_core.specs.History.{CoreValue};
 
     ghost Value = { CoreValue K };
 
@@ -37,8 +37,8 @@ impl<K: Keeper> Core<K> {
         requires hart { hart_of event < length self.old.run.harts }
         requires actions { length self.old.run.board.lists.order < self.old.run.actions }
         requires room { 6 ≤ K.room_of self.old.log.keeper }
-        ensures told { (t : Told) → IsCoreOf t self.old → IsCoreOf (given t event) self.new }
-        ensures sound { (t : Told) → IsCoreOf t self.old → IsSoundCore (given t event) }
+        ensures told { (t : History) → IsCoreOf t self.old → IsCoreOf (given t event) self.new }
+        ensures sound { (t : History) → IsCoreOf t self.old → IsSoundCore (given t event) }
         ensures action { result ≡ (event_on self.old.run event).action }
         ensures actions { self.new.run.actions ≡ self.old.run.actions }
         ensures keeper { (before : List LogEntry) → K.stands self.old.log.keeper before → K.stands self.new.log.keeper (before ++ entries_of self.old.run event) }

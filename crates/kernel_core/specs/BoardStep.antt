@@ -19,47 +19,47 @@ use Rattle.ready_queue.specs.declared.kind.Kind.TheVariants.{Ready, Done}
 use Rattle.ready_queue.specs.Gives.{HasNothingOut, IsOutOn, CanBeGiven}
 
 -- the board, the hart, the entries, and the queue action, if there was one
-pub record Gone : Type 0 where
+pub record BoardStep : Type 0 where
   pub board : BoardState
   pub hart : HartState
   pub probes : List Probe
   pub action : Option Action
 
 -- nothing is done
-abbrev pub stays : BoardState → HartState → Gone
+abbrev pub stays : BoardState → HartState → BoardStep
 stays b h = record { board = b; hart = h; probes = []; action = None }
 
-abbrev pub after_action : BoardState → HartAndProbes → Action → Gone
+abbrev pub after_action : BoardState → HartAndProbes → Action → BoardStep
 after_action b a action = record { board = b; hart = a.hart; probes = a.probes; action = Some action }
 
-abbrev pub gone_by_take : HartState → List CellWrite → ℕ → ℕ → Taken → Gone
-gone_by_take h begun rd next taken = after_action taken.board (answer_take begun rd next taken.got h) (take_action taken.got)
+abbrev pub board_step_by_take : HartState → List CellWrite → ℕ → ℕ → Taken → BoardStep
+board_step_by_take h begun rd next taken = after_action taken.board (answer_take begun rd next taken.got h) (take_action taken.got)
 
-abbrev pub gone_by_give_ready : BoardState → ℕ → HartState → List CellWrite → ℕ → Option ContextState → Gone
-gone_by_give_ready b number h begun next None = stays b h
-gone_by_give_ready b number h begun next (Some c) =
+abbrev pub board_step_by_give_ready : BoardState → ℕ → HartState → List CellWrite → ℕ → Option ContextState → BoardStep
+board_step_by_give_ready b number h begun next None = stays b h
+board_step_by_give_ready b number h begun next (Some c) =
     after_action (give_ready_of b number c) (answer_give begun next h) (actions.GaveReady c.body.task_no)
 
-abbrev pub gone_by_end : BoardState → ℕ → HartState → List CellWrite → ℕ → ContextState → Option End → Gone
-gone_by_end b number h begun next c None = stays b h
-gone_by_end b number h begun next c (Some end) =
+abbrev pub board_step_by_end : BoardState → ℕ → HartState → List CellWrite → ℕ → ContextState → Option End → BoardStep
+board_step_by_end b number h begun next c None = stays b h
+board_step_by_end b number h begun next c (Some end) =
     after_action (give_done_of b number c end) (answer_give begun next h) (actions.GaveDone c.body.task_no)
 
-abbrev pub gone_by_give_done : BoardState → ℕ → HartState → List CellWrite → ℕ → Option ContextState → Gone
-gone_by_give_done b number h begun next None = stays b h
-gone_by_give_done b number h begun next (Some c) = gone_by_end b number h begun next c c.end
+abbrev pub board_step_by_give_done : BoardState → ℕ → HartState → List CellWrite → ℕ → Option ContextState → BoardStep
+board_step_by_give_done b number h begun next None = stays b h
+board_step_by_give_done b number h begun next (Some c) = board_step_by_end b number h begun next c c.end
 
 -- what a step comes to, over the board
-abbrev pub gone_by : BoardState → ℕ → HartState → StepResult → Gone
-gone_by b number h (Steps after probes did) = record { board = b; hart = after; probes = probes; action = None }
-gone_by b number h (Wants Take begun rd next) = gone_by_take h begun rd next (take_of b number)
-gone_by b number h (Wants GiveReady begun rd next) = gone_by_give_ready b number h begun next h.held
-gone_by b number h (Wants GiveDone begun rd next) = gone_by_give_done b number h begun next h.held
-gone_by b number h Wedged = stays b h
+abbrev pub board_step_by : BoardState → ℕ → HartState → StepResult → BoardStep
+board_step_by b number h (Steps after probes did) = record { board = b; hart = after; probes = probes; action = None }
+board_step_by b number h (Wants Take begun rd next) = board_step_by_take h begun rd next (take_of b number)
+board_step_by b number h (Wants GiveReady begun rd next) = board_step_by_give_ready b number h begun next h.held
+board_step_by b number h (Wants GiveDone begun rd next) = board_step_by_give_done b number h begun next h.held
+board_step_by b number h Wedged = stays b h
 
 -- A step of the hart of this number.
-abbrev pub gone_of : List ℕ → BoardState → ℕ → HartState → Gone
-gone_of code b number h = gone_by b number h (hart_step code h)
+abbrev pub board_step_of : List ℕ → BoardState → ℕ → HartState → BoardStep
+board_step_of code b number h = board_step_by b number h (hart_step code h)
 
 -- the step gives back what is held, as one of this kind
 abbrev pub GivesKind : Kind → StepResult → Type 0
@@ -83,7 +83,7 @@ pub record CanGo (code : List ℕ) (b : BoardWithSpare) (number : ℕ) (h : Hart
   pub gives : (kind : Kind) → GivesKind kind (hart_step code h) → MayGive b.lists number h kind
 
 -- A board and a hart are as a step leaves them, with this action.
-pub record IsGone (g : Gone) (b : BoardState) (h : HartState) (action : Option Action) : Type 0 where
+pub record IsAfterBoardStep (g : BoardStep) (b : BoardState) (h : HartState) (action : Option Action) : Type 0 where
   pub board : b ≡ g.board
   pub hart : h ≡ g.hart
   pub action_is : action ≡ g.action

@@ -3,31 +3,31 @@ use Rattle.std.specs.Prelude.{◌≡◌, ℕ, List, [], ◌∷◌, ◌++◌, len
 use Rattle.core_model.specs.declared.event.Event.{Event}
 use Rattle.core_model.specs.declared.loaded.Loaded.{Loaded}
 use Rattle.core_model.specs.Core.{CoreState, core_after}
-use Rattle.core_model.specs.Invariant.{IsCoreSound}
+use Rattle.core_model.specs.Soundness.{IsCoreSound}
 use Rattle.core_model.specs.Loaded.{IsLoaded}
-use Rattle.core_laws.specs.KernelStates.{KernelParts}
-use Rattle.core_laws.specs.Homes.{HasExactHomes}
-use Rattle.core_laws.specs.Outputs.{AreOutputsSound}
+use Rattle.core_invariant.specs.KernelStates.{KernelParts}
+use Rattle.core_invariant.specs.Homes.{HasExactHomes}
+use Rattle.core_invariant.specs.Outputs.{AreOutputsSound}
 use Rattle.probe_log.specs.Counts.{StandFor}
 use Rattle.kernel_core.specs.Counted.{CountedValue}
 use Rattle.kernel_core.specs.Kernels.{IsWholeKernel}
 use Rattle.kernel_core.specs.Running.{RunValue}
 
 -- the bundle, the kernel, and the events so far
-pub record Told : Type 0 where
+pub record History : Type 0 where
   pub loaded : Loaded
   pub kernel : KernelParts
   pub events : List Event
 
 -- told nothing but the bundle and the kernel, and told one event more
-abbrev pub told_at_boot : Loaded → KernelParts → Told
-told_at_boot loaded kernel = record { loaded = loaded; kernel = kernel; events = [] }
+abbrev pub history_at_boot : Loaded → KernelParts → History
+history_at_boot loaded kernel = record { loaded = loaded; kernel = kernel; events = [] }
 
-abbrev pub given : Told → Event → Told
+abbrev pub given : History → Event → History
 given t event = record t { events = t.events ++ event ∷ [] }
 
 -- the core of all that was told
-abbrev pub core_of : Told → CoreState
+abbrev pub core_of : History → CoreState
 core_of t = core_after t.loaded t.kernel.code t.events
 
 -- a core, how many tasks it has, and its keeper with the counts
@@ -37,7 +37,7 @@ pub record CoreValue (K : Type 0) : Type 0 where
   pub log : CountedValue K
 
 -- It is that of what was told, and the counts are those of its log.
-pub record IsCoreOf {K : Type 0} (t : Told) (c : CoreValue K) : Type 0 where
+pub record IsCoreOf {K : Type 0} (t : History) (c : CoreValue K) : Type 0 where
   pub is_loaded : IsLoaded t.loaded
   pub is_kernel : IsWholeKernel t.kernel
   pub kernel : c.run.kernel ≡ t.kernel
@@ -48,7 +48,7 @@ pub record IsCoreOf {K : Type 0} (t : Told) (c : CoreValue K) : Type 0 where
 
 -- What holds of every core that was told something: it is sound, each task has exactly one home, and the outputs are beginnings of
 -- those of the undisturbed runs.
-pub record IsSoundCore (t : Told) : Type 0 where
+pub record IsSoundCore (t : History) : Type 0 where
   pub sound : IsCoreSound t.loaded (core_of t)
   pub homes : HasExactHomes (length t.loaded.tasks) (core_of t).board
   pub outputs : AreOutputsSound t.loaded (core_of t)

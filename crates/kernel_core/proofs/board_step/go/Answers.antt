@@ -6,9 +6,9 @@ use Rattle.hart_model.specs.HartState.{HartState}
 use Rattle.hart_model.specs.HartStep.{hart_step}
 use Rattle.hart_state.specs.Asked.{AsksTake}
 use Rattle.ready_queue.specs.declared.kind.Kind.TheVariants.{Ready, Done}
-use Rattle.kernel_core.specs.Going.{GivesKind}
+use Rattle.kernel_core.specs.BoardStep.{GivesKind}
 use Rattle.kernel_core.proofs.Wanted.{gives-ready, gives-done, room-left}
-use Rattle.kernel_core.proofs.going.go.Goals as goal
+use Rattle.kernel_core.proofs.board_step.go.Goals as goal
 
 pub take-requires-clause-asks : goal.take-requires-clause-asks
 take-requires-clause-asks g c =

@@ -2,9 +2,9 @@
 use Rattle.std.proofs.Common.{◌++◌, ◌∷◌, refl, sym, subst}
 use Rattle.kernel_core.specs.Counted.{of_counts, of_keeper}
 use Rattle.kernel_core.specs.Running.{entries_of}
-use Rattle.kernel_core.specs.Told.{CoreValue, IsCoreOf}
-use Rattle.kernel_core.proofs.ToldMore.{told-more, told-sound}
-use Rattle.kernel_core.proofs.logged.Core.apply.Goals as goal
+use Rattle.kernel_core.specs.History.{CoreValue, IsCoreOf}
+use Rattle.kernel_core.proofs.HistoryMore.{told-more, told-sound}
+use Rattle.kernel_core.proofs.whole_core.Core.apply.Goals as goal
 
 pub returns-clause-told : goal.returns-clause-told
 returns-clause-told g c t is =

@@ -4,7 +4,7 @@ ghost use Rattle.std.specs.Prelude.{◌≡◌, ◌≤◌, ◌<◌, ◌+◌, ◌+
 ghost use Rattle.hart_model.specs.declared.probe.Probe.{Probe as LogEntry};
 ghost use Rattle.hart_model.specs.HartStep.{hart_step};
 ghost use Rattle.hart_state.specs.Asked.{AsksTake};
-ghost use Rattle.kernel_core.specs.Going.{gone_of, GivesKind, CanGo, IsGone};
+ghost use Rattle.kernel_core.specs.BoardStep.{board_step_of, GivesKind, CanGo, IsAfterBoardStep};
 
 use core_model::Action;
 use hart_model::{Did, QueueCall};
@@ -23,10 +23,10 @@ fn take<K: Keeper>(
     requires can { CanGo code.now board.old number hart.old }
     requires asks { AsksTake (hart_step code.now hart.old) }
     requires room { 6 ≤ K.room_of keeper.old }
-    ensures gone { IsGone (gone_of code.now board.old.lists number hart.old) board.new.lists hart.new (Some result) }
+    ensures gone { IsAfterBoardStep (board_step_of code.now board.old.lists number hart.old) board.new.lists hart.new (Some result) }
     ensures spare { length board.new.lists.order + board.new.spare ≡ length board.old.lists.order + board.old.spare }
-    ensures log { (log : List LogEntry) → K.stands keeper.old log → K.stands keeper.new (log ++ (gone_of code.now board.old.lists number hart.old).probes) }
-    ensures room { K.room_of keeper.new + length (gone_of code.now board.old.lists number hart.old).probes ≡ K.room_of keeper.old }
+    ensures log { (log : List LogEntry) → K.stands keeper.old log → K.stands keeper.new (log ++ (board_step_of code.now board.old.lists number hart.old).probes) }
+    ensures room { K.room_of keeper.new + length (board_step_of code.now board.old.lists number hart.old).probes ≡ K.room_of keeper.old }
 {
     let got = board.take(number);
     let action = match &got {
@@ -49,10 +49,10 @@ fn give<K: Keeper>(
     requires can { CanGo code.now board.old number hart.old }
     requires gives { GivesKind kind (hart_step code.now hart.old) }
     requires room { 6 ≤ K.room_of keeper.old }
-    ensures gone { IsGone (gone_of code.now board.old.lists number hart.old) board.new.lists hart.new (Some result) }
+    ensures gone { IsAfterBoardStep (board_step_of code.now board.old.lists number hart.old) board.new.lists hart.new (Some result) }
     ensures spare { length board.new.lists.order + board.new.spare ≡ length board.old.lists.order + board.old.spare }
-    ensures log { (log : List LogEntry) → K.stands keeper.old log → K.stands keeper.new (log ++ (gone_of code.now board.old.lists number hart.old).probes) }
-    ensures room { K.room_of keeper.new + length (gone_of code.now board.old.lists number hart.old).probes ≡ K.room_of keeper.old }
+    ensures log { (log : List LogEntry) → K.stands keeper.old log → K.stands keeper.new (log ++ (board_step_of code.now board.old.lists number hart.old).probes) }
+    ensures room { K.room_of keeper.new + length (board_step_of code.now board.old.lists number hart.old).probes ≡ K.room_of keeper.old }
 {
     let context = hart.give(code, keeper);
     let task = context.body().task_no();
@@ -73,10 +73,10 @@ pub(crate) fn go<K: Keeper>(
 ) -> Option<Action>
     requires can { CanGo code.now board.old number hart.old }
     requires room { 6 ≤ K.room_of keeper.old }
-    ensures gone { IsGone (gone_of code.now board.old.lists number hart.old) board.new.lists hart.new result }
+    ensures gone { IsAfterBoardStep (board_step_of code.now board.old.lists number hart.old) board.new.lists hart.new result }
     ensures spare { length board.new.lists.order + board.new.spare ≡ length board.old.lists.order + board.old.spare }
-    ensures log { (log : List LogEntry) → K.stands keeper.old log → K.stands keeper.new (log ++ (gone_of code.now board.old.lists number hart.old).probes) }
-    ensures room { K.room_of keeper.new + length (gone_of code.now board.old.lists number hart.old).probes ≡ K.room_of keeper.old }
+    ensures log { (log : List LogEntry) → K.stands keeper.old log → K.stands keeper.new (log ++ (board_step_of code.now board.old.lists number hart.old).probes) }
+    ensures room { K.room_of keeper.new + length (board_step_of code.now board.old.lists number hart.old).probes ≡ K.room_of keeper.old }
 {
     match hart.step(code, keeper) {
         Did::Wants(QueueCall::Take) => Some(take(board, hart, number, code, keeper)),
