@@ -24,10 +24,10 @@ PY
 
 bundle 524288
 bundle 1048576
-bundle 499376
-bundle 998752
+bundle 499375
+bundle 998750
 fail=0
-for row in "script 524288 1048576" "script_probes 499376 998752"; do
+for row in "script 524288 1048576" "script_probes 499375 998750"; do
     read -r words half whole <<<"$row"
     words=${words/_/ }
     read -ra command <<<"$program $words"
