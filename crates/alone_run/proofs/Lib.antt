@@ -1,5 +1,5 @@
 pub mod DataWrite
 pub mod Standing
-pub mod Effects
-pub mod Numbers
+pub mod OwnWrites
+pub mod WritesInOrder
 pub mod Absent

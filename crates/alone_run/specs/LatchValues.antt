@@ -4,6 +4,8 @@ use Rattle.isa_model.specs.declared.latch.Latch.{Latch}
 use Rattle.isa_model.specs.declared.latch.Latch.TheVariants as latches
 use Rattle.isa_model.specs.declared.task.Task.{Task}
 use Rattle.isa_model.specs.Alone.{is_data_address}
+use Rattle.rv_effect.specs.declared.writes.UnitWrite.{UnitWrite}
+use Rattle.rv_effect.specs.declared.writes.UnitWrite.TheVariants.{Stores, Scratches}
 use Rattle.alone_run.specs.DataWords.{data_word}
 use Rattle.alone_run.specs.declared.latches.Latches.{Latches}
 
@@ -33,3 +35,9 @@ pub record Holds (T : Task) (m : Latches) (value : Latch → ℕ) : Type 0 where
   pub data_at : m.memory.at ≡ T.data_at
   pub data_len : length m.memory.words ≡ T.data_len
   pub aligned : T.data_at % 4 ≡ 0
+
+-- what a unit writes is the task's: a word of its data, and not mscratch
+abbrev pub IsOwnUnit : Task → UnitWrite → Type 0
+IsOwnUnit T (Stores value at word) = is_data_address T at ≡ true
+IsOwnUnit T (Scratches v) = ⊥
+IsOwnUnit T unit = Unit {0}

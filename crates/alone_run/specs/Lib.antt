@@ -5,3 +5,4 @@ pub mod StandsFor
 pub mod RunPosition
 pub mod IsAt
 pub mod Whole
+pub mod InstrForms

@@ -1,16 +1,17 @@
 //! The latches of a machine that runs one task.
 
-ghost use Rattle.std.specs.Prelude.{◌≡◌, ℕ, IsSome};
+ghost use Rattle.std.specs.Prelude.{◌≡◌, ℕ, true};
 ghost use Rattle.isa_model.specs.declared.task.Task.{Task};
 ghost use Rattle.isa_model.specs.declared.latch.Latch.{Latch};
 ghost use Rattle.isa_model.specs.Bits.{word_address};
-ghost use Rattle.isa_model.specs.Effect.{Flow, multiplier, to_reg};
-ghost use Rattle.isa_model.specs.Alone.{with_value, values_after, data_word_at};
+ghost use Rattle.isa_model.specs.Effect.{Flow, Moved, Rs1, Rs2, to_reg};
+ghost use Rattle.isa_model.specs.Alone.{with_value, values_after, data_word_at, is_data_address};
+ghost use Rattle.rv_effect.specs.View.{port_write, before_res, res_write, after_res, register_write, writes_of};
 ghost use Rattle.alone_run.specs.DataWords.{data_word};
 
 use crate::data::Data;
-use isa_model::{Alu, Latch, RegNo};
-use rv_exec::is_of_multiplier;
+use isa_model::{Latch, RegNo};
+use rv_effect::{RegisterWrite, Traced, UnitWrite, Writes};
 
 /// The values of the latches that a task can write: registers, operand ports, result, last loaded and last stored word, the
 /// multiplier's result, data.
@@ -27,7 +28,7 @@ pub(crate) struct Latches {
 }
 
 impl Latches {
-    ghost use Rattle.alone_run.specs.LatchValues.{Holds, latch_value};
+    ghost use Rattle.alone_run.specs.LatchValues.{Holds, IsOwnUnit, latch_value};
 
     /// The value of a latch, and 0 for one that isn't here.
     pub(crate) fn value(&self, latch: Latch) -> u32
@@ -59,54 +60,80 @@ impl Latches {
         self.regs[number.num() as usize]
     }
 
-    /// Writes the first operand port.
-    pub(crate) fn write_port_a(&mut self, value: u32)
-        ensures held { (T : Task) (v : Latch → ℕ) → Holds T self.old v → Holds T self.new (with_value Latch.PortA value v) }
+    /// Writes the first operand port, if an instruction does.
+    #[inline(always)]
+    fn write_port_a(&mut self, value: &Option<u32>)
+        ensures held { (T : Task) (v : Latch → ℕ) → Holds T self.old v →
+            Holds T self.new (values_after (port_write Latch.PortA (Moved Rs1) value.now) v) }
     {
-        self.port_a = value;
+        if let Some(value) = value {
+            self.port_a = *value;
+        }
     }
 
-    /// Writes the second operand port.
-    pub(crate) fn write_port_b(&mut self, value: u32)
-        ensures held { (T : Task) (v : Latch → ℕ) → Holds T self.old v → Holds T self.new (with_value Latch.PortB value v) }
+    /// Writes the second operand port, if an instruction does.
+    #[inline(always)]
+    fn write_port_b(&mut self, value: &Option<u32>)
+        ensures held { (T : Task) (v : Latch → ℕ) → Holds T self.old v →
+            Holds T self.new (values_after (port_write Latch.PortB (Moved Rs2) value.now) v) }
     {
-        self.port_b = value;
+        if let Some(value) = value {
+            self.port_b = *value;
+        }
     }
 
-    /// Writes the result of the arithmetic unit.
-    pub(crate) fn write_res(&mut self, value: u32)
-        ensures held { (T : Task) (v : Latch → ℕ) → Holds T self.old v → Holds T self.new (with_value Latch.Res value v) }
+    /// Writes the latch of the multiplier, if an instruction does.
+    #[inline(always)]
+    fn write_before(&mut self, unit: &UnitWrite)
+        ensures held { (T : Task) (v : Latch → ℕ) → Holds T self.old v → Holds T self.new (values_after (before_res unit.now) v) }
     {
-        self.res = value;
+        match unit {
+            UnitWrite::Multiplies(value) => {
+                self.mul = *value;
+            }
+            _ => {}
+        }
     }
 
-    /// Writes the last loaded word.
-    pub(crate) fn write_load(&mut self, value: u32)
-        ensures held { (T : Task) (v : Latch → ℕ) → Holds T self.old v → Holds T self.new (with_value Latch.Load value v) }
+    /// Writes the result of the arithmetic unit, if an instruction does.
+    #[inline(always)]
+    fn write_res(&mut self, res: &Option<Traced>)
+        ensures held { (T : Task) (v : Latch → ℕ) → Holds T self.old v → Holds T self.new (values_after (res_write res.now) v) }
     {
-        self.load = value;
+        if let Some(res) = res {
+            self.res = res.value;
+        }
     }
 
     /// Writes the last stored word.
-    pub(crate) fn write_store(&mut self, value: u32)
+    fn write_store(&mut self, value: u32)
         ensures held { (T : Task) (v : Latch → ℕ) → Holds T self.old v → Holds T self.new (with_value Latch.Store value v) }
-        ensures memory { self.new.memory ≡ self.old.memory }
     {
         self.store = value;
     }
 
-    /// Writes the result of an operation, where it is one of the multiplier.
-    pub(crate) fn write_multiplied(&mut self, op: Alu, value: u32)
-        ensures held { (T : Task) (v : Latch → ℕ) (flow : Flow) → Holds T self.old v →
-            Holds T self.new (values_after (multiplier op value flow) v) }
+    /// Writes what a load or a store writes after the result.
+    #[inline(always)]
+    fn write_after(&mut self, unit: &UnitWrite)
+        ensures held { (T : Task) (v : Latch → ℕ) → Holds T self.old v → IsOwnUnit T unit.now →
+            Holds T self.new (values_after (after_res unit.now) v) }
     {
-        if is_of_multiplier(op) {
-            self.mul = value;
+        match unit {
+            UnitWrite::Nothing => {}
+            UnitWrite::Multiplies(_) => {}
+            UnitWrite::Loads(word) => {
+                self.load = *word;
+            }
+            UnitWrite::Stores { value, at, word } => {
+                self.write_store(*value);
+                self.write_data(*at, word.value);
+            }
+            UnitWrite::Scratches(_) => {}
         }
     }
 
     /// Writes a register, but for x0, which stays 0.
-    pub(crate) fn write_reg(&mut self, rd: RegNo, value: u32)
+    fn write_reg(&mut self, rd: RegNo, value: u32)
         ensures held { (T : Task) (v : Latch → ℕ) (flow : Flow) → Holds T self.old v →
             Holds T self.new (values_after (to_reg rd value flow) v) }
     {
@@ -114,6 +141,30 @@ impl Latches {
         if number != 0 {
             self.regs[number as usize] = value;
         }
+    }
+
+    /// Writes the register that an instruction writes, if it does.
+    #[inline(always)]
+    fn write_register(&mut self, register: &Option<RegisterWrite>)
+        ensures held { (T : Task) (v : Latch → ℕ) → Holds T self.old v → Holds T self.new (values_after (register_write register.now) v) }
+    {
+        if let Some(register) = register {
+            self.write_reg(register.rd, register.value.value);
+        }
+    }
+
+    /// Writes what an instruction of a task writes.
+    #[inline(always)]
+    pub(crate) fn write(&mut self, writes: &Writes)
+        ensures held { (T : Task) (v : Latch → ℕ) → Holds T self.old v → IsOwnUnit T writes.now.unit →
+            Holds T self.new (values_after (writes_of writes.now) v) }
+    {
+        self.write_port_a(&writes.port_a);
+        self.write_port_b(&writes.port_b);
+        self.write_before(&writes.unit);
+        self.write_res(&writes.res);
+        self.write_after(&writes.unit);
+        self.write_register(&writes.register);
     }
 
     /// Writes a0.
@@ -131,12 +182,14 @@ impl Latches {
         self.memory.get(at)
     }
 
-    /// Writes the data word that an address lies in.
-    pub(crate) fn write_data(&mut self, at: u32, word: u32)
-        requires within { IsSome (data_word self.old.memory at) }
-        ensures held { (T : Task) (v : Latch → ℕ) → Holds T self.old v →
+    /// Writes the data word that an address lies in, if one does.
+    fn write_data(&mut self, at: u32, word: u32)
+        ensures held { (T : Task) (v : Latch → ℕ) → Holds T self.old v → is_data_address T at ≡ true →
             Holds T self.new (with_value (Latch.Mem (word_address at)) word v) }
     {
-        self.memory.set(at, word);
+        match self.data_word(at) {
+            Some(_) => self.memory.set(at, word),
+            None => {}
+        }
     }
 }

@@ -4,7 +4,6 @@
 
 mod data;
 mod executing;
-mod instructions;
 mod latches;
 mod machine;
 mod operands;

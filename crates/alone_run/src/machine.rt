@@ -1,10 +1,7 @@
 //! A machine that runs one task.
 
 ghost use Rattle.isa_model.specs.declared.task.Task.{Task};
-ghost use Rattle.isa_model.specs.Alone.{AloneState, after_fault, after_end, after_service, after_writes};
-ghost use Rattle.isa_model.specs.Effect.{Goes};
-ghost use Rattle.isa_model.specs.Bits.{low_word};
-ghost use Rattle.std.specs.Prelude.{◌+◌};
+ghost use Rattle.isa_model.specs.Alone.{AloneState, after_fault, after_end, after_service};
 
 use crate::latches::Latches;
 use crate::output::Output;
@@ -45,14 +42,5 @@ impl Machine {
     {
         self.pc = self.pc.wrapping_add(4);
         Deed::Called(number)
-    }
-
-    /// Goes on to the next instruction.
-    pub(crate) fn go_on(&mut self, deed: Deed) -> Deed
-        ensures left { (T : Task) (s : AloneState) → StandsFor T s self.old →
-            Leaves T (after_writes T deed (Goes (low_word (s.pc + 4))) s) result self.new }
-    {
-        self.pc = self.pc.wrapping_add(4);
-        deed
     }
 }

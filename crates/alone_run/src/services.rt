@@ -1,10 +1,10 @@
 //! The services of a task (this project's own): each is one instruction.
 
-ghost use Rattle.isa_model.specs.declared.instr.Instr.{Instr};
+ghost use Rattle.isa_model.specs.declared.latch.Latch.{Latch};
 ghost use Rattle.isa_model.specs.declared.task.Task.{Task};
 ghost use Rattle.isa_model.specs.Alone.{AloneState, after_out, after_in, after_call};
 ghost use Rattle.std.specs.Prelude.{◌≡◌, ◌+◌, ◌^◌, ◌<◌, OnSome, slice_get};
-ghost use Rattle.alone_run.specs.StandsFor.{StandsFor, Leaves, Performs};
+ghost use Rattle.alone_run.specs.StandsFor.{StandsFor, Leaves};
 
 use crate::machine::Machine;
 use isa_model::{Deed, End, EndKind, Task};
@@ -59,7 +59,8 @@ fn serve(task: &Task, machine: &mut Machine, number: u32, argument: u32) -> Deed
 
 /// The call of the environment: a7 has the number of the service, and a0 its argument.
 pub(crate) fn call(task: &Task, machine: &mut Machine) -> Deed
-    ensures performed { Performs task.now Instr.Ecall machine.old result machine.new }
+    ensures left { (s : AloneState) → StandsFor task.now s machine.old →
+        Leaves task.now (after_call task.now (s.value (Latch.Reg 17)) (s.value (Latch.Reg 10)) s) result machine.new }
 {
     let number = machine.latches.regs[17];
     let argument = machine.latches.regs[10];

@@ -14,7 +14,7 @@ use Rattle.hart_state.specs.declared.user.UserDeed.{UserDeed}
 use Rattle.hart_state.specs.declared.writer.OperandCells.{OperandCells}
 use Rattle.hart_state.specs.declared.writer.Writer.{Writer}
 use Rattle.hart_state.specs.declared.writer.Writer.TheVariants.{User, Machine}
-use Rattle.rv_effect.specs.View.{next_of}
+use Rattle.rv_effect.specs.View.{writes_of, next_of}
 use Rattle.rv_effect.specs.EffectView.{effect_value}
 use Rattle.hart_state.specs.WriterView.{operand_cells_of, after_writes_by}
 use Rattle.hart_state.specs.UserDeed.{HasUserDeed}
@@ -51,7 +51,7 @@ effect-probes h b who e w =
     written ∙ same_probes e.next (with_next_count a.hart) a.probes
 
 pub user-hart : (h : HartState) (held : Option ContextState) (d : UserDeed) → HasUserDeed h held (Some d) → (h1 h2 h3 : HartState)
-    → h1 ≡ (after_writes_by d.writer d.effect.writes h).hart → h2 ≡ with_next_count h1
+    → h1 ≡ (after_writes_by d.writer (writes_of d.effect.writes) h).hart → h2 ≡ with_next_count h1
     → h3 ≡ hart_after h2 (after_user_writes (no_writes h2) (next_of d.effect.next)) → h3 ≡ hart_after h (user_instr_step h held)
 user-hart h None d k h1 h2 h3 e1 e2 e3 = absurd k
 user-hart h (Some c) d k h1 h2 h3 e1 e2 e3 =
@@ -59,7 +59,7 @@ user-hart h (Some c) d k h1 h2 h3 e1 e2 e3 =
     ∙ ap (λ (e : Effect). hart_after h (after_user_effect h c.body e)) k.effect
 
 pub user-probes : (h : HartState) (held : Option ContextState) (d : UserDeed) → HasUserDeed h held (Some d)
-    → (after_writes_by d.writer d.effect.writes h).probes ≡ probes_of (user_instr_step h held)
+    → (after_writes_by d.writer (writes_of d.effect.writes) h).probes ≡ probes_of (user_instr_step h held)
 user-probes h None d k = absurd k
 user-probes h (Some c) d k =
     effect-probes h c.body d.writer (effect_value d.effect) k.writer
@@ -73,3 +73,9 @@ machine-hart h cells side e pc None some h1 h2 h3 e1 e2 e3 = absurd (cc some)
 machine-hart h cells side e pc (Some csrs) some h1 h2 h3 e1 e2 e3 =
     let written = e2 ∙ ap (λ (x : HartState). (after_writes_by (Machine cells) e.writes x).hart) e1 in
     ap (λ (x : HartState). record x { pc = pc }) (e3 ∙ ap (λ (x : HartState). after_side side x) written)
+
+pub machine-probes : (h : HartState) (cells : OperandCells) (side : SideEffect) (e : Effect) (pc : ℕ) (o : Option CsrFile) → is_some o ≡ true
+    → (h1 : HartState) → h1 ≡ record h { csrs = unwrap_or o h.csrs }
+    → (after_writes_by (Machine cells) e.writes h1).probes ≡ probes_of (by_csrs h (operand_cells_of cells) side e pc o)
+machine-probes h cells side e pc None some h1 e1 = absurd (cc some)
+machine-probes h cells side e pc (Some csrs) some h1 e1 = ap (λ (x : HartState). (after_writes_by (Machine cells) e.writes x).probes) e1

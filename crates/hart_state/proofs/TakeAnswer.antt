@@ -19,6 +19,7 @@ use Rattle.hart_state.specs.declared.writer.OperandCells.{OperandCells as CodeCe
 use Rattle.hart_state.specs.declared.writer.Writer.TheVariants.{Machine}
 use Rattle.rv_effect.specs.declared.effect.Effect.{Effect as CodeEffect}
 use Rattle.hart_state.specs.declared.answering.Asked.{Asked}
+use Rattle.rv_effect.specs.View.{writes_of}
 use Rattle.rv_effect.specs.EffectView.{effect_value}
 use Rattle.hart_state.specs.WriterView.{operand_cells_of, tag_by, writes_by, after_writes_by}
 use Rattle.hart_state.specs.Asked.{AsksTake, HasAsked, BeginsShort, after_take}
@@ -43,12 +44,12 @@ abbrev pub begun_and_loaded : Option ContextState → ℕ → HartAndProbes → 
 begun_and_loaded got rd one = in_two one (after_writes (loaded_writes rd (take_cell got)) one.hart)
 
 pub taken : (h : HartState) (step : StepResult) (a : Asked) (got : Option ContextState) → AsksTake step → HasAsked h step (Some a)
-    → after_take step got h ≡ with_got got a.next (begun_and_loaded got a.rd (after_writes_by (Machine a.cells) a.effect.writes h))
+    → after_take step got h ≡ with_got got a.next (begun_and_loaded got a.rd (after_writes_by (Machine a.cells) (writes_of a.effect.writes) h))
 taken h (Wants calls.Take begun rd next) a got asks k =
     ap (λ (x : HartAndProbes). with_got got next x) (after-append begun (loaded_writes rd (take_cell got)) h)
     ∙ ap (λ (b : List CellWrite). with_got got next (begun_and_loaded got rd (after_writes b h))) (sym k.begun_is)
-    ∙ ap (λ (r : ℕ). with_got got next (begun_and_loaded got r (after_writes_by (Machine a.cells) a.effect.writes h))) (sym k.rd_is)
-    ∙ ap (λ (n : ℕ). with_got got n (begun_and_loaded got a.rd (after_writes_by (Machine a.cells) a.effect.writes h))) (sym k.next_is)
+    ∙ ap (λ (r : ℕ). with_got got next (begun_and_loaded got r (after_writes_by (Machine a.cells) (writes_of a.effect.writes) h))) (sym k.rd_is)
+    ∙ ap (λ (n : ℕ). with_got got n (begun_and_loaded got a.rd (after_writes_by (Machine a.cells) (writes_of a.effect.writes) h))) (sym k.next_is)
 taken h (Wants calls.GiveReady begun rd next) a got asks k = absurd asks
 taken h (Wants calls.GiveDone begun rd next) a got asks k = absurd asks
 taken h (Steps hart probes did) a got asks k = absurd asks
@@ -61,7 +62,7 @@ take-found h (Wants calls.GiveDone begun rd next) asks k = k
 take-found h (Steps hart probes did) asks k = asks
 take-found h Wedged asks k = asks
 
-pub take-short : (h : HartState) (step : StepResult) (a : Asked) → AsksTake step → HasAsked h step (Some a) → length a.effect.writes ≤ 2
+pub take-short : (h : HartState) (step : StepResult) (a : Asked) → AsksTake step → HasAsked h step (Some a) → length (writes_of a.effect.writes) ≤ 2
 take-short h (Wants calls.Take begun rd next) a asks k = k.short
 take-short h (Wants calls.GiveReady begun rd next) a asks k = absurd asks
 take-short h (Wants calls.GiveDone begun rd next) a asks k = absurd asks
@@ -81,8 +82,8 @@ pub needs : (h : HartState) (instr : Instr) (call : QueueCall) (word : Option Ce
     → HasAsked h (machine_instr_step h instr) (Some (record { cells = cells; effect = code_effect; rd = rd; next = next }))
 needs h instr call word cells code_effect rd next reach same effect rd_is next_is aligned =
     let a : Asked = record { cells = cells; effect = code_effect; rd = rd; next = next } in
-    let writes : code_effect.writes ≡ (effect_of instr h.pc (operand_values (operand_cells_of cells))).writes = ap (λ (e : Effect). e.writes) effect in
-    let of_step : code_effect.writes ≡ (effect_of instr h.pc (operand_values (operand_cells h instr word blank))).writes =
+    let writes : writes_of code_effect.writes ≡ (effect_of instr h.pc (operand_values (operand_cells_of cells))).writes = ap (λ (e : Effect). e.writes) effect in
+    let of_step : writes_of code_effect.writes ≡ (effect_of instr h.pc (operand_values (operand_cells h instr word blank))).writes =
     writes ∙ ap (λ (o : OperandCells). (effect_of instr h.pc (operand_values o)).writes) same in
     subst (λ (r : Reach). HasAsked h (by_reach h instr r) (Some a)) reach (record {
       begun_is = ap (λ (ws : List Write). writes_by (Machine cells) h.held ws) writes ∙ ap (λ (o : OperandCells). machine_writes h o (machine_effect h instr o)) same;
@@ -96,7 +97,7 @@ needs h instr call word cells code_effect rd next reach same effect rd_is next_i
 
 -- the same by what the code has: the writes, the hart after them, and the cell that is loaded
 pub take-parts : (h h1 : HartState) (step : StepResult) (a : Asked) (got : Option ContextState) (ws : List Write) (cell : Cell)
-    → AsksTake step → HasAsked h step (Some a) → ws ≡ a.effect.writes → cell ≡ take_cell got → h1 ≡ (after_writes_by (Machine a.cells) ws h).hart
+    → AsksTake step → HasAsked h step (Some a) → ws ≡ (writes_of a.effect.writes) → cell ≡ take_cell got → h1 ≡ (after_writes_by (Machine a.cells) ws h).hart
     → with_got got a.next (in_two (after_writes_by (Machine a.cells) ws h) (after_writes (loaded_writes a.rd cell) h1)) ≡ after_take step got h
 take-parts h h1 step a got ws cell asks k ws_is cell_is h1_is =
     let one = after_writes_by (Machine a.cells) ws h in

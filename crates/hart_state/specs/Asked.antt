@@ -10,6 +10,7 @@ use Rattle.hart_model.specs.UserStep.{no_writes}
 use Rattle.hart_model.specs.HartStep.{answer_take, answer_give}
 use Rattle.hart_state.specs.declared.writer.Writer.TheVariants.{Machine}
 use Rattle.hart_state.specs.declared.answering.Asked.{Asked}
+use Rattle.rv_effect.specs.View.{writes_of}
 use Rattle.hart_state.specs.WriterView.{writes_by, after_writes_by}
 
 -- the step asks for a context
@@ -53,12 +54,12 @@ GivesHeld GiveDone (Some c) = Unit {0}
 
 -- what the code found of a step that asks: its writes, which leave what is held, and the rest
 pub record IsAsked (h : HartState) (call : QueueCall) (begun : List CellWrite) (rd next : ℕ) (a : Asked) : Type 0 where
-  pub begun_is : writes_by (Machine a.cells) h.held a.effect.writes ≡ begun
+  pub begun_is : writes_by (Machine a.cells) h.held (writes_of a.effect.writes) ≡ begun
   pub rd_is : a.rd ≡ rd
   pub next_is : a.next ≡ next
   pub aligned : a.next % 4 ≡ 0
-  pub short : BeginsShort call (length a.effect.writes)
-  pub keeps : (after_writes_by (Machine a.cells) a.effect.writes h).hart.held ≡ h.held
+  pub short : BeginsShort call (length (writes_of a.effect.writes))
+  pub keeps : (after_writes_by (Machine a.cells) (writes_of a.effect.writes) h).hart.held ≡ h.held
   pub gives : GivesHeld call h.held
 
 -- what the code found of a step: something exactly where it asks

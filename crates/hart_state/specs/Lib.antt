@@ -1,5 +1,6 @@
 pub mod PlaceBounds
 pub mod Reached
+pub mod WriteView
 pub mod WriterView
 pub mod UserDeed
 pub mod PortView

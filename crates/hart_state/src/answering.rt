@@ -124,7 +124,7 @@ impl Hart {
             Some(asked) => {
                 let cell = take_cell(&got);
                 let writer = Writer::Machine(asked.cells);
-                self.write_from(&writer, asked.effect.writes.as_slice(), 0, keeper);
+                self.write_all(&writer, &asked.effect.writes, keeper);
                 self.write_loaded(asked.rd, &cell, keeper);
                 self.held = got;
                 self.pc = asked.next;
@@ -147,7 +147,7 @@ impl Hart {
             None => unreachable!(),
             Some(asked) => {
                 let writer = Writer::Machine(asked.cells);
-                self.write_from(&writer, asked.effect.writes.as_slice(), 0, keeper);
+                self.write_all(&writer, &asked.effect.writes, keeper);
                 self.let_go(asked.next)
             }
         }

@@ -12,6 +12,7 @@ mod registers;
 mod stepping;
 mod user;
 mod user_operands;
+mod write_list;
 mod writer;
 mod writing;
 

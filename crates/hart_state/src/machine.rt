@@ -102,7 +102,7 @@ impl Hart {
             return Did::Wedged;
         }
         let writer = Writer::Machine(*cells);
-        self.write_from(&writer, effect.writes.as_slice(), 0, keeper);
+        self.write_all(&writer, &effect.writes, keeper);
         self.act(side);
         self.pc = pc;
         Did::Ran

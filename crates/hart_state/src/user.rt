@@ -17,7 +17,7 @@ use context_slot::Body;
 use hart_model::Did;
 use probe_log::Keeper;
 use rv_decode::decode;
-use rv_effect::{Effect, Next, Writes, effect_of, is_privileged, latch_effect};
+use rv_effect::{Effect, Next, effect_of, is_privileged, no_effect};
 
 /// What an instruction of a task does: who writes, and the effect.
 #[derive(Drop)]
@@ -30,7 +30,7 @@ pub struct UserDeed {
 fn exception(cause: u32) -> Effect
     ensures effect { effect_value result ≡ exception_of cause }
 {
-    latch_effect(Writes::new(), Next::Raises(cause))
+    no_effect(Next::Raises(cause))
 }
 
 impl Hart {
@@ -145,7 +145,7 @@ impl Hart {
         match self.user_deed() {
             None => self.trap(1),
             Some(deed) => {
-                self.write_from(&deed.writer, deed.effect.writes.as_slice(), 0, keeper);
+                self.write_all(&deed.writer, &deed.effect.writes, keeper);
                 self.raise_count();
                 self.follow(deed.effect.next)
             }

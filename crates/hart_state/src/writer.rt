@@ -3,11 +3,13 @@
 ghost use Rattle.std.specs.Prelude.{◌≡◌, [], ◌∷◌, option_map};
 ghost use Rattle.hart_model.specs.Taint.{mixture_of, machine_tag};
 ghost use Rattle.hart_model.specs.MachineStep.{tag_of_word, operand_tag, operand_values};
-ghost use Rattle.rv_effect.specs.View.{operand_of, flow_of, write_of, operands_of};
+ghost use Rattle.rv_effect.specs.View.{operand_of, flow_of, operands_of};
+ghost use Rattle.hart_state.specs.WriteView.{write_of};
 ghost use Rattle.hart_state.specs.WriterView.{operand_cells_of, tag_by, reaches_data};
 
+use crate::write_list::Write;
 use hart_model::{Cell, Tag};
-use rv_effect::{Flow, Operand, Operands, Write};
+use rv_effect::{Flow, Operand, Operands};
 
 /// The cells of the operands of an instruction.
 #[derive(Clone, Copy)]

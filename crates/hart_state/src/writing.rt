@@ -5,16 +5,18 @@ ghost use Rattle.hart_model.specs.declared.probe.Probe.{Probe as LogEntry};
 ghost use Rattle.hart_model.specs.HartState.{bases_of, hart_with_cell};
 ghost use Rattle.hart_model.specs.Writes.{probe_of_write};
 ghost use Rattle.hart_state.specs.PlaceBounds.{IsPlaceThere};
-ghost use Rattle.rv_effect.specs.View.{write_of};
+ghost use Rattle.rv_effect.specs.View.{writes_of};
+ghost use Rattle.hart_state.specs.WriteView.{write_of};
 ghost use Rattle.hart_state.specs.WriterView.{after_writes_by};
 
 use crate::hart::Hart;
 use crate::registers::hart_number;
+use crate::write_list::{Write, WriteList};
 use crate::writer::Writer;
 use hart_model::{Cell, Place};
 use leak_latch::probe_of;
 use probe_log::Keeper;
-use rv_effect::Write;
+use rv_effect::Writes;
 
 impl Hart {
     /// Makes this the cell of a place that there is, with the entry that it makes, also where the value stays.
@@ -54,7 +56,7 @@ impl Hart {
     }
 
     /// The writes from one on, one after the other.
-    pub(crate) fn write_from<K: Keeper>(
+    fn write_from<K: Keeper>(
         &mut self,
         writer: &Writer,
         writes: &[Write],
@@ -71,5 +73,17 @@ impl Hart {
             self.write_latch(writer, &writes[from], keeper);
             self.write_from(writer, writes, from + 1, keeper);
         }
+    }
+
+    /// What an instruction writes, one after the other.
+    pub(crate) fn write_all<K: Keeper>(&mut self, writer: &Writer, writes: &Writes, keeper: &mut K)
+        requires room { 6 ≤ K.room_of keeper.old }
+        ensures hart { self.new ≡ (after_writes_by writer.now (writes_of writes.now) self.old).hart }
+        ensures log { (log : List LogEntry) → K.stands keeper.old log →
+            K.stands keeper.new (log ++ (after_writes_by writer.now (writes_of writes.now) self.old).probes) }
+        ensures room { K.room_of keeper.new + length (after_writes_by writer.now (writes_of writes.now) self.old).probes ≡ K.room_of keeper.old }
+    {
+        let list = WriteList::of(writes);
+        self.write_from(writer, list.as_slice(), 0, keeper);
     }
 }

@@ -1,22 +1,22 @@
 //! The effect of CSR instructions, and of each instruction by its form.
 
-ghost use Rattle.std.specs.Prelude.{◌≡◌, ◌<◌, ◌%◌, [], ◌∷◌, ◌&&◌, not, length, Some, None, if◌then◌else◌};
+ghost use Rattle.std.specs.Prelude.{◌≡◌, ◌%◌, ◌==◌, [], ◌∷◌, ◌&&◌, not, Some, None, if◌then◌else◌};
 ghost use Rattle.isa_model.specs.declared.instr.Instr.{Instr};
+ghost use Rattle.isa_model.specs.declared.latch.Latch.TheVariants.{PortA, Res, Scr};
 ghost use Rattle.isa_model.specs.Encoding.{IsInstr};
 ghost use Rattle.isa_model.specs.Arithmetic.{csr_result as csr_result_of};
-ghost use Rattle.isa_model.specs.Effect.{Constant, Moved, Rs1, csr_effect as effect_of_csr, csr_flow as csr_flow_of, is_csr_written as is_csr_written_by, is_mscratch as is_mscratch_of, effect_of as effect_of_instr};
-ghost use Rattle.rv_effect.specs.View.{flow_of, next_of, optional_csr_write_of, operands_of};
-ghost use Rattle.isa_model.specs.Effect.{GoesAligned};
+ghost use Rattle.isa_model.specs.Effect.{Constant, Moved, Rs1, to, csr_effect as effect_of_csr, csr_flow as csr_flow_of, is_csr_written as is_csr_written_by, is_mscratch as is_mscratch_of, effect_of as effect_of_instr, GoesAligned};
+ghost use Rattle.rv_effect.specs.View.{flow_of, next_of, optional_csr_write_of, operands_of, port_write, before_res, after_res, res_write};
 ghost use Rattle.rv_effect.specs.EffectView.{effect_value};
 
 use crate::effect::{CsrWrite, Effect, Next, Operands};
 use crate::flow::{Flow, Operand};
 use crate::forms::{
-    add_upper_to_pc, branch, first_port, jump_by, jump_indirect, latch_effect, load, load_upper,
-    next_address, operate, operate_immediate, store,
+    add_upper_to_pc, branch, jump_by, jump_indirect, load, load_upper, next_address, no_effect,
+    operate, operate_immediate, store,
 };
-use crate::writes::Writes;
-use isa_model::{CsrOp, Instr, Latch, RegNo};
+use crate::writes::{RegisterWrite, Traced, UnitWrite, Writes};
+use isa_model::{CsrOp, Instr, RegNo};
 
 const MSCRATCH: u16 = 0x340;
 
@@ -66,8 +66,7 @@ fn immediate_flow(op: CsrOp) -> Flow
 struct Change {
     csr: u16,
     is_written: bool,
-    value: u32,
-    flow: Flow,
+    new: Traced,
 }
 
 /// Whether a CSR is the latch `mscratch`.
@@ -78,34 +77,57 @@ fn is_mscratch(csr: u16) -> bool
 }
 
 /// The write of a CSR other than `mscratch`, if it is written.
-fn register_write(change: &Change) -> Option<CsrWrite>
-    ensures write { optional_csr_write_of result ≡ (if change.now.is_written && not (is_mscratch_of change.now.csr) then Some (record { csr = change.now.csr; value = change.now.value; flow = flow_of change.now.flow }) else None) }
+fn other_write(change: &Change) -> Option<CsrWrite>
+    ensures write { optional_csr_write_of result ≡ (if change.now.is_written && not (is_mscratch_of change.now.csr) then Some (record { csr = change.now.csr; value = change.now.new.value; flow = flow_of change.now.new.flow }) else None) }
 {
     if change.is_written && !is_mscratch(change.csr) {
         Some(CsrWrite {
             csr: change.csr,
-            value: change.value,
-            flow: change.flow,
+            value: change.new.value,
+            flow: change.new.flow,
         })
     } else {
         None
     }
 }
 
-/// A CSR instruction after other writes: the result and rd take the old value.
-fn change_csr(writes: Writes, rd: RegNo, old: u32, change: &Change, pc: u32) -> Effect
-    requires room { length writes < 2 }
-    ensures effect { effect_value result ≡ effect_of_csr writes rd change.now.csr pc old change.now.is_written change.now.value (flow_of change.now.flow) }
+/// The write of `mscratch`, if it is written.
+fn scratch_write(change: &Change) -> UnitWrite
+    ensures before { before_res result ≡ [] }
+    ensures after { after_res result ≡ (if change.now.is_written && is_mscratch_of change.now.csr then to Scr change.now.new.value (flow_of change.now.new.flow) else []) }
 {
-    let from_old = Flow::Moved(Operand::OldCsr);
-    let is_scratch_written = change.is_written && is_mscratch(change.csr);
-    let mut writes = writes;
-    writes.put_unless(rd.num() == 0, Latch::Res, old, from_old);
-    writes.put_if(is_scratch_written, Latch::Scr, change.value, change.flow);
-    writes.put_register(rd, old, from_old);
+    if change.is_written && is_mscratch(change.csr) {
+        UnitWrite::Scratches(change.new)
+    } else {
+        UnitWrite::Nothing
+    }
+}
+
+/// The write of the old value into the result, unless rd is x0.
+fn old_result(rd: RegNo, old: Traced) -> Option<Traced>
+    ensures write { res_write result ≡ (if rd == 0 then [] else to Res old.value (flow_of old.flow)) }
+{
+    if rd.num() == 0 { None } else { Some(old) }
+}
+
+/// A CSR instruction after the write of the first port: the result and rd take the old value.
+fn change_csr(port_a: Option<u32>, rd: RegNo, old: u32, change: &Change, pc: u32) -> Effect
+    ensures effect { effect_value result ≡ effect_of_csr (port_write PortA (Moved Rs1) port_a) rd change.now.csr pc old change.now.is_written change.now.new.value (flow_of change.now.new.flow) }
+{
+    let old = Traced {
+        value: old,
+        flow: Flow::Moved(Operand::OldCsr),
+    };
+    let writes = Writes {
+        port_a,
+        port_b: None,
+        res: old_result(rd, old),
+        unit: scratch_write(change),
+        register: Some(RegisterWrite { rd, value: old }),
+    };
     Effect {
         writes,
-        csr: register_write(change),
+        csr: other_write(change),
         next: Next::Goes(next_address(pc)),
     }
 }
@@ -117,10 +139,12 @@ fn change_by_register(op: CsrOp, rd: RegNo, rs1: RegNo, csr: u16, pc: u32, o: &O
     let change = Change {
         csr,
         is_written: is_csr_written(op, u32::from(rs1.num())),
-        value: csr_result(op, o.old_csr, o.rs1),
-        flow: register_flow(op),
+        new: Traced {
+            value: csr_result(op, o.old_csr, o.rs1),
+            flow: register_flow(op),
+        },
     };
-    change_csr(first_port(o), rd, o.old_csr, &change, pc)
+    change_csr(Some(o.rs1), rd, o.old_csr, &change, pc)
 }
 
 /// A CSR instruction on an immediate.
@@ -131,14 +155,17 @@ fn change_by_immediate(op: CsrOp, rd: RegNo, uimm: u8, csr: u16, pc: u32, o: &Op
     let change = Change {
         csr,
         is_written: is_csr_written(op, operand),
-        value: csr_result(op, o.old_csr, operand),
-        flow: immediate_flow(op),
+        new: Traced {
+            value: csr_result(op, o.old_csr, operand),
+            flow: immediate_flow(op),
+        },
     };
-    change_csr(Writes::new(), rd, o.old_csr, &change, pc)
+    change_csr(None, rd, o.old_csr, &change, pc)
 }
 
-/// What an instruction does, by its form.
-fn effect_by_form(instr: &Instr, pc: u32, o: &Operands) -> Effect
+/// What an instruction at `pc` does by the values of its operands: the latches that it writes, in order, the CSR that it writes, and
+/// what follows.
+pub fn effect_anywhere(instr: &Instr, pc: u32, o: &Operands) -> Effect
     requires valid { IsInstr instr.now }
     ensures effect { effect_value result ≡ effect_of_instr instr.now pc (operands_of o.now) }
 {
@@ -157,22 +184,21 @@ fn effect_by_form(instr: &Instr, pc: u32, o: &Operands) -> Effect
         } => store(*kind, *rs2, *rs1, *imm, pc, o),
         Instr::AluImm { op, rd, rs1, imm } => operate_immediate(*op, *rd, *rs1, *imm, pc, o),
         Instr::AluReg { op, rd, rs1, rs2 } => operate(*op, *rd, *rs1, *rs2, pc, o),
-        Instr::Fence { word: _ } => latch_effect(Writes::new(), Next::Goes(next_address(pc))),
-        Instr::Ecall => latch_effect(Writes::new(), Next::Calls),
-        Instr::Ebreak => latch_effect(Writes::new(), Next::Raises(3)),
-        Instr::Mret => latch_effect(Writes::new(), Next::Returns),
+        Instr::Fence { word: _ } => no_effect(Next::Goes(next_address(pc))),
+        Instr::Ecall => no_effect(Next::Calls),
+        Instr::Ebreak => no_effect(Next::Raises(3)),
+        Instr::Mret => no_effect(Next::Returns),
         Instr::Csr { op, rd, rs1, csr } => change_by_register(*op, *rd, *rs1, *csr, pc, o),
         Instr::CsrImm { op, rd, uimm, csr } => change_by_immediate(*op, *rd, *uimm, *csr, pc, o),
     }
 }
 
-/// What an instruction at `pc` does by the values of its operands: the latches that it writes, in order, the CSR that it writes, and
-/// what follows.
+/// What an instruction does by the values of its operands at a `pc` that is a multiple of 4: it goes on at such an address.
 pub fn effect_of(instr: &Instr, pc: u32, o: &Operands) -> Effect
     requires valid { IsInstr instr.now }
     requires aligned { pc % 4 ≡ 0 }
     ensures effect { effect_value result ≡ effect_of_instr instr.now pc (operands_of o.now) }
     ensures aligned { GoesAligned (next_of result.next) }
 {
-    effect_by_form(instr, pc, o)
+    effect_anywhere(instr, pc, o)
 }

@@ -42,7 +42,7 @@ pub struct Operands {
 }
 
 /// The effect of an instruction.
-#[derive(Drop)]
+#[derive(Clone, Copy)]
 pub struct Effect {
     /// The latches that it writes, in order.
     pub writes: Writes,

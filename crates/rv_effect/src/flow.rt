@@ -1,6 +1,4 @@
-//! The write of a latch, and where its value comes from.
-
-use isa_model::Latch;
+//! Where a value comes from.
 
 /// An operand of an instruction.
 #[derive(Clone, Copy)]
@@ -26,15 +24,4 @@ pub enum Flow {
     Computed(Operand),
     /// It is computed from two operands.
     Combined(Operand, Operand),
-}
-
-/// A write of a latch.
-#[derive(Clone, Copy)]
-pub struct Write {
-    /// The latch that is written.
-    pub to: Latch,
-    /// Its new value.
-    pub value: u32,
-    /// Where the value comes from.
-    pub flow: Flow,
 }

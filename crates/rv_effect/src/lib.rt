@@ -9,12 +9,15 @@ mod forms;
 mod operands;
 mod writes;
 
-pub use csr_forms::effect_of;
+pub use csr_forms::{effect_anywhere, effect_of};
 pub use effect::{CsrWrite, Effect, Next, Operands};
-pub use flow::{Flow, Operand, Write};
-pub use forms::{latch_effect, next_address};
+pub use flow::{Flow, Operand};
+pub use forms::{
+    add_upper_to_pc, branch, jump_by, jump_indirect, load, load_upper, next_address, no_effect,
+    operate, operate_immediate, store,
+};
 pub use operands::{
     address_of, code_word, first_register, immediate_bits, is_data_address, is_privileged,
     load_size, second_register, store_size, zero_register,
 };
-pub use writes::Writes;
+pub use writes::{RegisterWrite, Traced, UnitWrite, Writes};

@@ -1,107 +1,78 @@
-//! The writes of one instruction, in order.
+//! The latches that an instruction writes.
 
-ghost use Rattle.std.specs.Prelude.{◌≡◌, ◌+◌, ◌<◌, ◌≤◌, [], ◌++◌, length, map, if◌then◌else◌};
-ghost use Rattle.isa_model.specs.Effect.{to as to_latch, to_reg, result as result_writes};
-ghost use Rattle.rv_effect.specs.View.{flow_of, write_of};
+ghost use Rattle.std.specs.Prelude.{◌≡◌, None};
 
-use crate::flow::{Flow, Write};
-use isa_model::{Latch, RegNo};
-use std::marker::Model;
+use crate::flow::Flow;
+use isa_model::RegNo;
 
-/// The writes of one instruction, at most six, the first one first.
-#[derive(Drop)]
-pub struct Writes {
-    items: [Write; 6],
-    len: usize,
+/// A value, and where it comes from.
+#[derive(Clone, Copy)]
+pub struct Traced {
+    /// The value.
+    pub value: u32,
+    /// Where it comes from.
+    pub flow: Flow,
 }
 
-impl Model for Writes {
-    ghost use Rattle.std.specs.Prelude.{◌≡◌, ◌≤◌, List, length, map, take};
-    ghost use Rattle.isa_model.specs.Effect.{Write};
-    ghost use Rattle.rv_effect.specs.View.{write_of};
+/// The write of a register; that of x0 is none.
+#[derive(Clone, Copy)]
+pub struct RegisterWrite {
+    /// The register.
+    pub rd: RegNo,
+    /// Its new value.
+    pub value: Traced,
+}
 
-    ghost Value = { List Write };
+/// What an instruction writes by a unit of its own.
+#[derive(Clone, Copy)]
+pub enum UnitWrite {
+    /// It uses none.
+    Nothing,
+    /// The latch of the multiplier, by a value that is computed from rs1 and rs2.
+    Multiplies(u32),
+    /// The latch of the last load, by the memory word.
+    Loads(u32),
+    /// The latch of the last store, by the value of rs2, and then the memory word.
+    Stores {
+        /// The value of rs2.
+        value: u32,
+        /// An address in the memory word.
+        at: u32,
+        /// The new memory word.
+        word: Traced,
+    },
+    /// The latch `mscratch`.
+    Scratches(Traced),
+}
 
-    ghost view = { λ w. map write_of (take w.len w.items) };
-
-    ghost invariant = { λ w. (w.len ≤ 6) × (length w.items ≡ 6) };
+/// The latches that an instruction writes, each at most once: first the operand ports, then the multiplier's latch, the result, the
+/// latches and the word of a load or a store or `mscratch`, and last the register.
+#[derive(Clone, Copy)]
+pub struct Writes {
+    /// The first operand port, by the value of rs1.
+    pub port_a: Option<u32>,
+    /// The second operand port, by the value of rs2.
+    pub port_b: Option<u32>,
+    /// The result of the arithmetic unit.
+    pub res: Option<Traced>,
+    /// What the multiplier, the memory or `mscratch` takes.
+    pub unit: UnitWrite,
+    /// The register.
+    pub register: Option<RegisterWrite>,
 }
 
 impl Writes {
     /// No writes.
-    pub fn new() -> Writes
-        ensures writes { result ≡ [] }
+    #[inline(always)]
+    pub(crate) fn none() -> Writes
+        ensures writes { result ≡ record { port_a = None; port_b = None; res = None; unit = UnitWrite.Nothing; register = None } }
     {
-        let none = Write {
-            to: Latch::PortA,
-            value: 0,
-            flow: Flow::Constant,
-        };
         Writes {
-            items: [none; 6],
-            len: 0,
+            port_a: None,
+            port_b: None,
+            res: None,
+            unit: UnitWrite::Nothing,
+            register: None,
         }
-    }
-
-    /// The write of a latch after the others.
-    pub fn put(&mut self, to: Latch, value: u32, flow: Flow)
-        requires room { length self.old < 6 }
-        ensures writes { self.new ≡ self.old ++ to_latch to value (flow_of flow) }
-        ensures len { length self.new ≡ length self.old + 1 }
-    {
-        self.items[self.len] = Write { to, value, flow };
-        self.len += 1;
-    }
-
-    /// The write of a latch after the others, unless it is left out.
-    pub fn put_unless(&mut self, is_left_out: bool, to: Latch, value: u32, flow: Flow)
-        requires room { length self.old < 6 }
-        ensures writes { self.new ≡ self.old ++ (if is_left_out then [] else to_latch to value (flow_of flow)) }
-        ensures len { length self.new ≤ length self.old + 1 }
-    {
-        if !is_left_out {
-            self.put(to, value, flow);
-        }
-    }
-
-    /// The write of a latch after the others, if it is done.
-    pub fn put_if(&mut self, is_done: bool, to: Latch, value: u32, flow: Flow)
-        requires room { length self.old < 6 }
-        ensures writes { self.new ≡ self.old ++ (if is_done then to_latch to value (flow_of flow) else []) }
-        ensures len { length self.new ≤ length self.old + 1 }
-    {
-        if is_done {
-            self.put(to, value, flow);
-        }
-    }
-
-    /// The write of a register after the others, unless it is x0.
-    pub fn put_register(&mut self, rd: RegNo, value: u32, flow: Flow)
-        requires room { length self.old < 6 }
-        ensures writes { self.new ≡ self.old ++ to_reg rd value (flow_of flow) }
-        ensures len { length self.new ≤ length self.old + 1 }
-    {
-        if rd.num() != 0 {
-            self.put(Latch::Reg(rd), value, flow);
-        }
-    }
-
-    /// The writes of a result and a register after the others.
-    pub fn put_result(&mut self, rd: RegNo, value: u32, flow: Flow)
-        requires room { length self.old < 5 }
-        ensures writes { self.new ≡ self.old ++ result_writes rd value (flow_of flow) }
-        ensures len { length self.new ≤ length self.old + 2 }
-    {
-        self.put(Latch::Res, value, flow);
-        self.put_register(rd, value, flow);
-    }
-
-    /// The writes as a slice.
-    pub fn as_slice(&self) -> &[Write]
-        ensures writes { map write_of result.now ≡ self.now }
-        ensures len { length result.now ≡ length self.now }
-        ensures few { length result.now ≤ 6 }
-    {
-        &self.items[..self.len]
     }
 }

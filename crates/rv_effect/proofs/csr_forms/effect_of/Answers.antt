@@ -8,5 +8,5 @@ use Rattle.rv_effect.proofs.csr_forms.effect_of.Goals as goal
 
 pub returns-clause-aligned : goal.returns-clause-aligned
 returns-clause-aligned c =
-    let same = ap (λ (e : Effect). e.next) c.effect_by_form.ensures.effect in
+    let same = ap (λ (e : Effect). e.next) c.effect_anywhere.ensures.effect in
     subst (λ (n : Next). GoesAligned n) (sym same) (next_aligned c.args.instr.now c.args.pc (operands_of c.args.o.now) c.requires.aligned)
