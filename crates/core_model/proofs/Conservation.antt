@@ -2,6 +2,7 @@
 use Rattle.std.proofs.Common.{◌≡◌, ℕ, zero, suc, ◌+◌, List, [], ◌∷◌, slice_get, option_map, refl, ap, ◌∙◌, arith}
 use Rattle.isa_model.specs.declared.task.Task.{Task}
 use Rattle.hart_model.specs.Context.{fresh_body}
+use Rattle.core_model.specs.Board.{front_of}
 use Rattle.core_model.specs.Core.{bodies_from}
 use Rattle.core_model.specs.Conservation.{ActionsConserve, TasksBeginOwn}
 use Rattle.core_model.proofs.Counts.{homes-take, slots-take, homes-give_ready, slots-give_ready, homes-give_done, slots-give_done}
@@ -9,8 +10,8 @@ use Rattle.core_model.proofs.Counts.{homes-take, slots-take, homes-give_ready, s
 pub actions-conserve : ActionsConserve
 actions-conserve = record {
   takes = λ b hart. record {
-    tasks = λ t. homes-take t hart b b.ready refl;
-    slots = λ s. slots-take s hart b b.ready refl;
+    tasks = λ t. homes-take t hart b (front_of b.ready.first b.ready.second) refl;
+    slots = λ s. slots-take s hart b (front_of b.ready.first b.ready.second) refl;
   };
   gives = λ b hart c alone. record {
     tasks_ready = λ t. homes-give_ready t hart b c alone;

@@ -1,6 +1,8 @@
 -- Actions of a board, and tasks at boot.
 pub mod Lists
+pub mod ReadyLists
 pub mod Counts
+pub mod BandsInOrder
 pub mod Conservation
 -- Examples, and runs as events.
 mod TryBoard

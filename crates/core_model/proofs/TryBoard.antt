@@ -25,9 +25,9 @@ abbrev context_0 : ContextState
 context_0 = admit_of body_0 0 fresh_words
 
 abbrev at_boot : BoardState
-at_boot = boot_board 1 (body_0 ∷ body_1 ∷ body_2 ∷ [])
+at_boot = boot_board 1 (body_0 ∷ body_1 ∷ body_2 ∷ []) (0 ∷ 1 ∷ 0 ∷ [])
 
-ready_at_boot : at_boot.ready ≡ context_0 ∷ []
+ready_at_boot : at_boot.ready ≡ record { first = context_0 ∷ []; second = [] }
 ready_at_boot = refl
 
 waiting_at_boot : at_boot.waiting ≡ body_1 ∷ body_2 ∷ []
@@ -77,8 +77,24 @@ nothing_out : given_done.out ≡ []
 nothing_out = refl
 
 -- its pc and its bounds are set
-next_context : given_done.ready ≡ admit_of body_1 0 fresh_words ∷ []
+next_context : given_done.ready ≡ record { first = []; second = admit_of body_1 0 fresh_words ∷ [] }
 next_context = refl
 
 pc_of_next : slot_word (admit_of body_1 0 fresh_words) 0 ≡ public 0x110000
 pc_of_next = refl
+
+-- with two slots, task 1 of band 1 is taken after task 2, which is of band 0 and got its slot later
+abbrev context_1 : ContextState
+context_1 = admit_of body_1 1 fresh_words
+
+abbrev two_slots : BoardState
+two_slots = boot_board 2 (body_0 ∷ body_1 ∷ body_2 ∷ []) (0 ∷ 1 ∷ 0 ∷ [])
+
+both_bands : two_slots.ready ≡ record { first = context_0 ∷ []; second = context_1 ∷ [] }
+both_bands = refl
+
+before_band_1 : (take_of (give_done_of (take_of two_slots 4).board 4 ended_context TapeEnd) 5).got ≡ Some (admit_of body_2 0 fresh_words)
+before_band_1 = refl
+
+after_band_0 : (take_of (take_of two_slots 4).board 5).got ≡ Some context_1
+after_band_0 = refl

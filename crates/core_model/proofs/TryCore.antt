@@ -33,7 +33,7 @@ abbrev plan : Plan
 plan = record { quanta = []; tail = 4096 }
 
 abbrev loaded : Loaded
-loaded = record { harts = 8; slots = 1; plans = replicate 8 plan; tasks = task ∷ []; worlds = []; events = []; order = [] }
+loaded = record { harts = 8; slots = 1; plans = replicate 8 plan; tasks = task ∷ []; bands = 0 ∷ []; worlds = []; events = []; order = [] }
 
 -- the take and the next instruction
 abbrev two_steps : CoreState

@@ -29,6 +29,7 @@ loaded word = record {
   slots = 1;
   plans = record { quanta = []; tail = 4096 } ∷ [];
   tasks = task word ∷ [];
+  bands = 0 ∷ [];
   worlds = [];
   events = [];
   order = [];
@@ -48,7 +49,7 @@ tasks_alike = record {
 }
 
 bundles_alike : AreAlike (loaded 7) (loaded 9)
-bundles_alike = record { harts = refl; slots = refl; plans = refl; tasks = (tasks_alike, tt) }
+bundles_alike = record { harts = refl; slots = refl; plans = refl; bands = refl; tasks = (tasks_alike, tt) }
 
 -- a write of x10 by this hart
 abbrev write : ℕ → ℕ → Why → Probe

@@ -13,7 +13,7 @@ use Rattle.core_model.specs.Orders.{coarse_after, fine_from, result_of, steps_to
 use Rattle.core_model.proofs.TryCore.{task}
 
 abbrev loaded : Plan → Loaded
-loaded plan = record { harts = 1; slots = 1; plans = plan ∷ []; tasks = task ∷ []; worlds = []; events = []; order = [] }
+loaded plan = record { harts = 1; slots = 1; plans = plan ∷ []; tasks = task ∷ []; bands = 0 ∷ []; worlds = []; events = []; order = [] }
 
 -- without quanta: two takes with a give each, and the empty take
 abbrev pub calm : Loaded

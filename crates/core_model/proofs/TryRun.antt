@@ -57,7 +57,7 @@ run_to actions (suc n) r = if length r.board.order == actions then r else run_to
 
 -- one slot and one task of fuel 5
 abbrev at_boot : Task → Run
-at_boot task = record { hart = boot_hart 0 0x1324; board = boot_board 1 (fresh_body 0 task ∷ []); log = [] }
+at_boot task = record { hart = boot_hart 0 0x1324; board = boot_board 1 (fresh_body 0 task ∷ []) (0 ∷ []); log = [] }
 
 -- a task of these words, with this many data words, this tape and an output of at most 4 words
 abbrev task_of_words : List ℕ → ℕ → List ℕ → Task

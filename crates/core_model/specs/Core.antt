@@ -40,7 +40,7 @@ harts_from number (suc more) take = boot_hart number take ∷ harts_from (number
 -- the core of a loaded bundle at boot
 abbrev pub boot_core : Loaded → KernelCodeState → CoreState
 boot_core loaded kernel = record {
-  board = boot_board loaded.slots (boot_bodies loaded);
+  board = boot_board loaded.slots (boot_bodies loaded) loaded.bands;
   harts = harts_from 0 loaded.harts kernel.take;
   log = [];
 }

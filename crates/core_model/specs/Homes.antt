@@ -2,13 +2,13 @@
 use Rattle.std.specs.Prelude.{ℕ, Option, Some, None, option_map, find, ◌==◌}
 use Rattle.core_model.specs.declared.home.Home.{Home}
 use Rattle.core_model.specs.declared.home.Home.TheVariants.{Waiting, Slot, Hart, Ended}
-use Rattle.core_model.specs.Board.{BoardState}
+use Rattle.core_model.specs.Board.{BoardState, all_ready}
 
 abbrev pub waiting_home : BoardState → ℕ → Option Home
 waiting_home b task = option_map (λ body. Waiting) (find (λ body. body.task_no == task) b.waiting)
 
 abbrev pub slot_home : BoardState → ℕ → Option Home
-slot_home b task = option_map (λ c. Slot c.slot) (find (λ c. c.body.task_no == task) b.ready)
+slot_home b task = option_map (λ c. Slot c.slot) (find (λ c. c.body.task_no == task) (all_ready b.ready))
 
 abbrev pub hart_home : BoardState → ℕ → Option Home
 hart_home b task = option_map (λ o. Hart o.hart o.slot) (find (λ o. o.task_no == task) b.out)

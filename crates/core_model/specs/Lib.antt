@@ -1,5 +1,6 @@
 pub mod Plans
 pub mod Events
+pub mod Bands
 pub mod Board
 pub mod Homes
 pub mod KernelText

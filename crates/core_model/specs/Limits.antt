@@ -18,6 +18,10 @@ max_code_words = 4096
 abbrev pub max_tape_words : ℕ
 max_tape_words = 4096
 
+-- the bands are 0 and 1
+abbrev pub max_band : ℕ
+max_band = 1
+
 -- the greatest quantum and the greatest tail
 abbrev pub max_quantum : ℕ
 max_quantum = 4096

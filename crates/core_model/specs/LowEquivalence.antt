@@ -25,11 +25,12 @@ ArePairwise R [] [] = ⊤
 ArePairwise R (x ∷ xs) (y ∷ ys) = R x y × ArePairwise R xs ys
 ArePairwise R xs ys = ⊥
 
--- Two loaded bundles are alike: the same harts, slots and plans, and tasks alike one by one.
+-- Two loaded bundles are alike: the same harts, slots, plans and bands, and tasks alike one by one.
 pub record AreAlike (a b : Loaded) : Type 0 where
   pub harts : a.harts ≡ b.harts
   pub slots : a.slots ≡ b.slots
   pub plans : a.plans ≡ b.plans
+  pub bands : a.bands ≡ b.bands
   pub tasks : ArePairwise AreTasksAlike a.tasks b.tasks
 
 -- the values that the why leaves to be public: both of a public entry, and of a value the one on the other side

@@ -21,7 +21,7 @@ use Rattle.hart_model.specs.MachineStep.{kernel_address}
 use Rattle.hart_model.specs.Context.{BodyState, ContextState, DoneState, StandsForTask, task_of, fresh_body, slot_len, pc_word, bound_word, slot_address, slot_word, data_word}
 use Rattle.hart_model.specs.HartState.{HartState, hart_cell}
 use Rattle.core_model.specs.declared.loaded.Loaded.{Loaded}
-use Rattle.core_model.specs.Board.{BoardState, OutEntry, out_entry}
+use Rattle.core_model.specs.Board.{BoardState, OutEntry, all_ready, out_entry}
 use Rattle.core_model.specs.Explained.{IsValueOf, IsLogExplained}
 use Rattle.core_model.specs.Core.{CoreState}
 
@@ -149,22 +149,22 @@ pub record IsHartSound (tasks : List Task) (number : ℕ) (h : HartState) : Type
 abbrev pub home_count : BoardState → ℕ → ℕ
 home_count b task_no =
     count_by (λ (body : BodyState). body.task_no == task_no) b.waiting
-    + count_by (λ (c : ContextState). c.body.task_no == task_no) b.ready
+    + count_by (λ (c : ContextState). c.body.task_no == task_no) (all_ready b.ready)
     + count_by (λ (o : OutEntry). o.task_no == task_no) b.out
     + count_by (λ (d : DoneState). d.task_no == task_no) b.ended
 
 abbrev pub slot_count : BoardState → ℕ → ℕ
-slot_count b slot = count_by (λ (c : ContextState). c.slot == slot) b.ready + count_by (λ (o : OutEntry). o.slot == slot) b.out
+slot_count b slot = count_by (λ (c : ContextState). c.slot == slot) (all_ready b.ready) + count_by (λ (o : OutEntry). o.slot == slot) b.out
 
 -- A board of these tasks and so many slots: each task is in exactly one place, no slot is in two, and all that is there is as it
 -- should be.
 pub record IsBoardSound (tasks : List Task) (slots : ℕ) (b : BoardState) : Type 0 where
   pub homes : (task_no : ℕ) → home_count b task_no ≡ (if nat_lt task_no (length tasks) then 1 else 0)
   pub slot_once : (slot : ℕ) → slot_count b slot ≤ 1
-  pub ready_slots : All (λ (c : ContextState). c.slot < slots) b.ready
+  pub ready_slots : All (λ (c : ContextState). c.slot < slots) (all_ready b.ready)
   pub out_slots : All (λ (o : OutEntry). o.slot < slots) b.out
   pub waiting : All (IsWaitingCase tasks) b.waiting
-  pub ready : All (IsReadyCase tasks) b.ready
+  pub ready : All (IsReadyCase tasks) (all_ready b.ready)
   pub ended : All (IsEndedCase tasks) b.ended
 
 -- what is out on a hart that holds this

@@ -2,6 +2,7 @@
 
 ghost use Rattle.core_model.specs.Events.{CountsAreLengths};
 ghost use Rattle.core_model.specs.Loaded.{TasksAreApart};
+ghost use Rattle.core_model.specs.Bands.{BandsGoInOrder};
 ghost use Rattle.core_model.specs.Conservation.{ActionsConserve, TasksBeginOwn};
 
 /// Runs stand for as many events, and for as many entries of an order, as the sum of their times says.
@@ -18,6 +19,12 @@ pub fn tasks_are_apart()
 /// board as before, and no slot in more.
 pub fn actions_conserve()
     ensures law { ActionsConserve }
+{}
+
+/// Whatever is ready stands in the list of its task's band, at boot and after every queue action, and a task of band 1 is taken only
+/// where no task of band 0 is ready.
+pub fn bands_go_in_order()
+    ensures law { BandsGoInOrder }
 {}
 
 /// At boot each task has its own code, tape and limits.

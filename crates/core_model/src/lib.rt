@@ -17,7 +17,9 @@ pub use action::Action;
 pub use event::{Event, EventRun, OrderRun};
 pub use home::Home;
 pub use items::Items;
-pub use laws::{actions_conserve, counts_are_lengths, tasks_are_apart, tasks_begin_own};
+pub use laws::{
+    actions_conserve, bands_go_in_order, counts_are_lengths, tasks_are_apart, tasks_begin_own,
+};
 pub use loaded::Loaded;
 pub use plan::{Plan, Quanta};
 pub use world::World;

@@ -18,6 +18,8 @@ pub struct Loaded {
     pub plans: Items<Plan>,
     /// The tasks in the order of their numbers, 1 to 32 of them.
     pub tasks: Items<Task>,
+    /// The band of each task, 0 or 1. The ready tasks of band 0 are taken first.
+    pub bands: Items<u32>,
     /// The worlds, at most 65,536, all with as many words.
     pub worlds: Items<World>,
     /// The events of the core in runs, at most 1,048,576 events.
