@@ -1,5 +1,5 @@
 -- What a queue action leaves of a board, for the hart that made it: all that is kept of a board is kept.
-use Rattle.std.proofs.Common.{◌≡◌, ℕ, ◌≤◌, ◌<◌, ◌≢◌, true, false, List, [], ◌∷◌, ◌++◌, length, filter, slice_get, nat_lt, Some, ◌==◌, if◌then◌else◌, refl, sym, ap, ◌∙◌, subst, arith}
+use Rattle.std.proofs.Common.{◌≡◌, ℕ, ◌≤◌, ◌<◌, ◌≢◌, true, false, List, [], ◌∷◌, ◌++◌, length, filter, slice_get, nat_lt, Some, None, ◌==◌, if◌then◌else◌, refl, sym, ap, ◌∙◌, subst, arith}
 use Rattle.std.specs.Prelude.{All}
 use Rattle.std.proofs.lemmas.Bool.{eqb-true, eq-eqb, ne_eqb, cond-true, cond-false}
 use Rattle.std.proofs.lemmas.List.{append-nil}
@@ -8,7 +8,7 @@ use Rattle.isa_model.specs.declared.ends.End.{End}
 use Rattle.hart_model.specs.Context.{BodyState, ContextState, admit_of, done_of}
 use Rattle.hart_model.specs.HartState.{HartState}
 use Rattle.core_model.specs.declared.loaded.Loaded.{Loaded}
-use Rattle.core_model.specs.Board.{BoardState, OutEntry, out_entry, out_without, take_from, give_ready_of, give_done_of, with_next_admitted}
+use Rattle.core_model.specs.Board.{BoardState, OutEntry, Front, all_ready, front_of, out_entry, out_without, take_from, give_ready_of, give_done_of, with_next_admitted}
 use Rattle.core_model.specs.Core.{CoreState}
 use Rattle.core_model.specs.Soundness.{IsEndedCase, home_count, slot_count, entries_held}
 use Rattle.core_invariant.specs.KernelStates.{KernelParts}
@@ -17,16 +17,17 @@ use Rattle.core_invariant.specs.CutPoints.{IsDoneContext}
 use Rattle.core_invariant.specs.Invariant.{IsCoreKept, IsWaitingTask}
 use Rattle.core_model.proofs.Lists.{filter-kept, filter-none}
 use Rattle.core_model.proofs.Counts.{on_hart, with_ended, homes-take, slots-take, homes-give_ready, slots-give_ready, homes-give_done, slots-give_done}
+use Rattle.core_model.proofs.ReadyLists.{front-is, all-ready}
 use Rattle.core_invariant.proofs.Admits.{done-admits}
 
 -- The board that an action of a hart leaves of a core, where these entries are out on the hart then.
 pub record IsBoardKept (loaded : Loaded) (before : BoardState) (hart : ℕ) (entries : List OutEntry) (b : BoardState) : Type 0 where
   pub homes : (task_no : ℕ) → home_count b task_no ≡ (if nat_lt task_no (length loaded.tasks) then 1 else 0)
   pub slot_once : (slot : ℕ) → slot_count b slot ≤ 1
-  pub ready_slots : All (λ (context : ContextState). context.slot < loaded.slots) b.ready
+  pub ready_slots : All (λ (context : ContextState). context.slot < loaded.slots) (all_ready b.ready)
   pub out_slots : All (λ (o : OutEntry). o.slot < loaded.slots) b.out
   pub waiting : All (IsWaitingTask loaded.tasks) b.waiting
-  pub ready : All (IsReadyContext loaded.tasks) b.ready
+  pub ready : All (IsReadyContext loaded.tasks) (all_ready b.ready)
   pub ended : All (IsEndedCase loaded.tasks) b.ended
   pub mine : filter (on_hart hart) b.out ≡ entries
   pub others : (i : ℕ) → i ≢ hart → filter (on_hart i) b.out ≡ filter (on_hart i) before.out
@@ -73,7 +74,7 @@ module _ (k : KernelParts) (loaded : Loaded) (c : CoreState) (kept : IsCoreKept 
   }
 
   -- a take that finds nothing
-  pub empty-board : filter (on_hart hart) c.board.out ≡ [] → IsBoardKept loaded c.board hart [] (take_from c.board hart []).board
+  pub empty-board : filter (on_hart hart) c.board.out ≡ [] → IsBoardKept loaded c.board hart [] (take_from c.board hart None).board
   empty-board none = record {
     homes = kept.homes;
     slot_once = kept.slot_once;
@@ -88,24 +89,24 @@ module _ (k : KernelParts) (loaded : Loaded) (c : CoreState) (kept : IsCoreKept 
   }
 
   -- a take that gets the front of the ready contexts
-  pub taken-board : (first : ContextState) (rest : List ContextState) → c.board.ready ≡ first ∷ rest → hart < loaded.harts
-      → filter (on_hart hart) c.board.out ≡ []
-      → IsBoardKept loaded c.board hart (out_entry hart first ∷ []) (take_from c.board hart (first ∷ rest)).board
-  taken-board first rest e exists none =
-      let slots = subst (All (λ (context : ContextState). context.slot < loaded.slots)) e kept.ready_slots in
-      let contexts = subst (All (IsReadyContext loaded.tasks)) e kept.ready in
+  pub taken-board : (f : Front) → front_of c.board.ready.first c.board.ready.second ≡ Some f → hart < loaded.harts → filter (on_hart hart) c.board.out ≡ []
+      → IsBoardKept loaded c.board hart (out_entry hart f.context ∷ []) (take_from c.board hart (Some f)).board
+  taken-board f e exists none =
+      let in_front = front-is c.board.ready.first c.board.ready.second f e in
+      let slots = subst (All (λ (context : ContextState). context.slot < loaded.slots)) in_front kept.ready_slots in
+      let contexts = subst (All (IsReadyContext loaded.tasks)) in_front kept.ready in
       record {
-        homes = λ t. homes-take t hart c.board (first ∷ rest) e ∙ kept.homes t;
-        slot_once = λ s. subst (λ n. n ≤ 1) (sym (slots-take s hart c.board (first ∷ rest) e)) (kept.slot_once s);
-        ready_slots = All-tail (λ (context : ContextState). context.slot < loaded.slots) first rest slots;
-        out_slots = All-push (λ (o : OutEntry). o.slot < loaded.slots) c.board.out (out_entry hart first) kept.out_slots
-            (All-head (λ (context : ContextState). context.slot < loaded.slots) first rest slots);
+        homes = λ t. homes-take t hart c.board (Some f) e ∙ kept.homes t;
+        slot_once = λ s. subst (λ n. n ≤ 1) (sym (slots-take s hart c.board (Some f) e)) (kept.slot_once s);
+        ready_slots = All-tail (λ (context : ContextState). context.slot < loaded.slots) f.context (all_ready f.left) slots;
+        out_slots = All-push (λ (o : OutEntry). o.slot < loaded.slots) c.board.out (out_entry hart f.context) kept.out_slots
+            (All-head (λ (context : ContextState). context.slot < loaded.slots) f.context (all_ready f.left) slots);
         waiting = kept.waiting;
-        ready = All-tail (IsReadyContext loaded.tasks) first rest contexts;
+        ready = All-tail (IsReadyContext loaded.tasks) f.context (all_ready f.left) contexts;
         ended = kept.ended;
-        mine = mine_more hart first c.board.out none;
-        others = λ i ne. others_more i hart first c.board.out ne;
-        out_exists = All-push (λ (o : OutEntry). o.hart < loaded.harts) c.board.out (out_entry hart first) kept.out_exists exists;
+        mine = mine_more hart f.context c.board.out none;
+        others = λ i ne. others_more i hart f.context c.board.out ne;
+        out_exists = All-push (λ (o : OutEntry). o.hart < loaded.harts) c.board.out (out_entry hart f.context) kept.out_exists exists;
       }
 
   -- the slot of what is out on the hart is one of the bundle's
@@ -120,10 +121,10 @@ module _ (k : KernelParts) (loaded : Loaded) (c : CoreState) (kept : IsCoreKept 
   ready-board x mine can = record {
     homes = λ t. homes-give_ready t hart c.board x mine ∙ kept.homes t;
     slot_once = λ s. subst (λ n. n ≤ 1) (sym (slots-give_ready s hart c.board x mine)) (kept.slot_once s);
-    ready_slots = All-push (λ (context : ContextState). context.slot < loaded.slots) c.board.ready x kept.ready_slots (slot_low x mine);
+    ready_slots = all-ready (λ (context : ContextState). context.slot < loaded.slots) c.board.bands c.board.ready x kept.ready_slots (slot_low x mine);
     out_slots = All-filter _ (λ (o : OutEntry). o.slot < loaded.slots) c.board.out kept.out_slots;
     waiting = kept.waiting;
-    ready = All-push (IsReadyContext loaded.tasks) c.board.ready x kept.ready can;
+    ready = all-ready (IsReadyContext loaded.tasks) c.board.bands c.board.ready x kept.ready can;
     ended = kept.ended;
     mine = filter-none (on_hart hart) c.board.out;
     others = λ i ne. others_stay i hart c.board.out ne;
@@ -155,11 +156,11 @@ module _ (k : KernelParts) (loaded : Loaded) (c : CoreState) (kept : IsCoreKept 
       record {
         homes = λ t. homes t ∙ kept.homes t;
         slot_once = λ s. (let now = slots s in let before = kept.slot_once s in omega arith);
-        ready_slots = All-push (λ (context : ContextState). context.slot < loaded.slots) c.board.ready (admit_of next x.slot x.words)
+        ready_slots = all-ready (λ (context : ContextState). context.slot < loaded.slots) c.board.bands c.board.ready (admit_of next x.slot x.words)
             kept.ready_slots (slot_low x mine);
         out_slots = All-filter _ (λ (o : OutEntry). o.slot < loaded.slots) c.board.out kept.out_slots;
         waiting = All-tail (IsWaitingTask loaded.tasks) next rest waits;
-        ready = All-push (IsReadyContext loaded.tasks) c.board.ready (admit_of next x.slot x.words) kept.ready
+        ready = all-ready (IsReadyContext loaded.tasks) c.board.bands c.board.ready (admit_of next x.slot x.words) kept.ready
             (done-admits loaded.tasks x next done first.0 first.1);
         ended = All-push (IsEndedCase loaded.tasks) c.board.ended (done_of x end) kept.ended ended;
         mine = filter-none (on_hart hart) c.board.out;

@@ -23,6 +23,7 @@ use Rattle.core_model.specs.Routines.{IsReadyContext}
 use Rattle.core_invariant.specs.CutPoints.{IsOnItsWay}
 use Rattle.core_invariant.specs.OneHart.{EachHart}
 use Rattle.core_invariant.specs.Invariant.{IsCoreKept, IsWaitingTask}
+use Rattle.core_model.proofs.ReadyLists.{count-bands, all-bands}
 use Rattle.core_model.proofs.Lists.{bit, count-cons, some-is}
 use Rattle.core_model.proofs.Counts.{waits_as, ready_as, ready_in}
 use Rattle.core_invariant.proofs.Composition.{kept-sound, events-kept}
@@ -177,11 +178,15 @@ module _ (k : KernelParts) (loaded : Loaded) (fits : IsLoaded loaded) (one : Eac
       let place : 0 + t ≡ t = omega arith in
       let all = subst (λ n. count_by (waits_as n) bodies ≡ bit (nat_lt t (length loaded.tasks))) place (one_each 0 t loaded.tasks) in
       let ready = same_tasks t 0 (take loaded.slots bodies) in
+      let lists = count-bands (ready_as t) loaded.bands (contexts_from 0 (take loaded.slots bodies)) in
       let split = sum_by-take-drop (λ b. bit (waits_as t b)) bodies loaded.slots in
       omega arith
 
   boot_slots : (s : ℕ) → slot_count (boot_core loaded k.code).board s ≤ 1
-  boot_slots s = let once = slot_at_most_once s 0 (take loaded.slots bodies) in omega arith
+  boot_slots s =
+      let once = slot_at_most_once s 0 (take loaded.slots bodies) in
+      let lists = count-bands (ready_in s) loaded.bands (contexts_from 0 (take loaded.slots bodies)) in
+      omega arith
 
   few : length (take loaded.slots bodies) ≤ loaded.slots
   few = taken_few loaded.slots bodies
@@ -198,11 +203,13 @@ module _ (k : KernelParts) (loaded : Loaded) (fits : IsLoaded loaded) (one : Eac
     harts = λ i h is. subst (λ g. IsOnItsWay loaded.tasks k i g) (harts_start i h is) (one.boots i);
     homes = boot_homes;
     slot_once = boot_slots;
-    ready_slots = slots_below loaded.slots 0 (take loaded.slots bodies) (omega (arith, few));
+    ready_slots = all-bands (λ (context : ContextState). context.slot < loaded.slots) loaded.bands (contexts_from 0 (take loaded.slots bodies))
+        (slots_below loaded.slots 0 (take loaded.slots bodies) (omega (arith, few)));
     out_slots = All-nil _;
     waiting = All-drop (IsWaitingTask loaded.tasks) loaded.slots bodies all_wait;
-    ready = contexts_can loaded.tasks 0 (take loaded.slots bodies) (let high = fits.limits.slots_high in omega (arith, few))
-        (All-take (IsWaitingTask loaded.tasks) loaded.slots bodies all_wait);
+    ready = all-bands (IsReadyContext loaded.tasks) loaded.bands (contexts_from 0 (take loaded.slots bodies))
+        (contexts_can loaded.tasks 0 (take loaded.slots bodies) (let high = fits.limits.slots_high in omega (arith, few))
+        (All-take (IsWaitingTask loaded.tasks) loaded.slots bodies all_wait));
     ended = All-nil _;
     out = λ i h is. subst (λ (g : HartState). [] ≡ entries_held i g.held) (harts_start i h is) refl;
     out_exists = All-nil _;

@@ -16,7 +16,8 @@ use Rattle.hart_model.specs.HartStep.{hart_step, answer_take, answer_give}
 use Rattle.core_model.specs.declared.event.Event.{Event}
 use Rattle.core_model.specs.declared.event.Event.TheVariants.{Go, Tick}
 use Rattle.core_model.specs.declared.loaded.Loaded.{Loaded}
-use Rattle.core_model.specs.Board.{BoardState, OutEntry, out_entry, take_from, give_ready_of, give_done_of}
+use Rattle.core_model.specs.Board.{BoardState, OutEntry, out_entry, take_from, give_ready_of, give_done_of, Front, all_ready, front_of}
+use Rattle.core_model.proofs.ReadyLists.{front-is}
 use Rattle.core_model.specs.Core.{CoreState, with_hart, after_take, after_give_done, after_call, after_step, after_go, after_tick, after_event, core_from}
 use Rattle.core_model.specs.Explained.{IsExplained}
 use Rattle.core_model.specs.Soundness.{IsCoreSound, IsWaitingCase, IsReadyCase, entries_held}
@@ -41,7 +42,7 @@ module _ (k : KernelParts) (loaded : Loaded) (one : EachHart loaded.tasks k) whe
       ready_slots = kept.ready_slots;
       out_slots = kept.out_slots;
       waiting = All-weaker (IsWaitingTask loaded.tasks) (IsWaitingCase loaded.tasks) (λ b w. w.0) c.board.waiting kept.waiting;
-      ready = All-weaker (IsReadyContext loaded.tasks) (IsReadyCase loaded.tasks) (λ x r. r.ready) c.board.ready kept.ready;
+      ready = All-weaker (IsReadyContext loaded.tasks) (IsReadyCase loaded.tasks) (λ x r. r.ready) (all_ready c.board.ready) kept.ready;
       ended = kept.ended;
     };
     out = kept.out;
@@ -94,18 +95,19 @@ module _ (k : KernelParts) (loaded : Loaded) (one : EachHart loaded.tasks k) whe
       mine : (held : Option ContextState) → h.held ≡ held → filter (on_hart hart) c.board.out ≡ entries_held hart held
       mine held e = kept.out hart h is ∙ ap (entries_held hart) e
 
-      take-kept : (begun : List CellWrite) (rd next : ℕ) (ready : List ContextState) → hart_step k.code.words h ≡ Wants Take begun rd next
-          → c.board.ready ≡ ready
-          → IsCoreKept k loaded (after_take c hart h begun rd next (take_from c.board hart ready)).core
-      take-kept begun rd next [] wants e =
+      take-kept : (begun : List CellWrite) (rd next : ℕ) (front : Option Front) → hart_step k.code.words h ≡ Wants Take begun rd next
+          → front_of c.board.ready.first c.board.ready.second ≡ front
+          → IsCoreKept k loaded (after_take c hart h begun rd next (take_from c.board hart front)).core
+      take-kept begun rd next None wants e =
           let none = mine None (one.holds_none hart h begun rd next way wants) in
-          with-hart-kept (answer_take begun rd next None h) (take_from c.board hart []).board []
+          with-hart-kept (answer_take begun rd next None h) (take_from c.board hart None).board []
           (one.takes hart h begun rd next None way wants tt) (empty-board k loaded c kept hart none)
-      take-kept begun rd next (first ∷ rest) wants e =
+      take-kept begun rd next (Some f) wants e =
           let none = mine None (one.holds_none hart h begun rd next way wants) in
-          let can = All-head (IsReadyContext loaded.tasks) first rest (subst (All (IsReadyContext loaded.tasks)) e kept.ready) in
-          with-hart-kept (answer_take begun rd next (Some first) h) (take_from c.board hart (first ∷ rest)).board (out_entry hart first ∷ [])
-          (one.takes hart h begun rd next (Some first) way wants can) (taken-board k loaded c kept hart first rest e exists none)
+          let in_front = front-is c.board.ready.first c.board.ready.second f e in
+          let can = All-head (IsReadyContext loaded.tasks) f.context (all_ready f.left) (subst (All (IsReadyContext loaded.tasks)) in_front kept.ready) in
+          with-hart-kept (answer_take begun rd next (Some f.context) h) (take_from c.board hart (Some f)).board (out_entry hart f.context ∷ [])
+          (one.takes hart h begun rd next (Some f.context) way wants can) (taken-board k loaded c kept hart f e exists none)
 
       give_ready-kept : (begun : List CellWrite) (rd next : ℕ) → GivesReady loaded.tasks k hart h begun next
           → IsCoreKept k loaded (after_call c hart h GiveReady begun rd next h.held).core
@@ -126,7 +128,7 @@ module _ (k : KernelParts) (loaded : Loaded) (one : EachHart loaded.tasks k) whe
 
       call-kept : (call : QueueCall) (begun : List CellWrite) (rd next : ℕ) → hart_step k.code.words h ≡ Wants call begun rd next
           → IsCoreKept k loaded (after_call c hart h call begun rd next h.held).core
-      call-kept Take begun rd next wants = take-kept begun rd next c.board.ready wants refl
+      call-kept Take begun rd next wants = take-kept begun rd next (front_of c.board.ready.first c.board.ready.second) wants refl
       call-kept GiveReady begun rd next wants = give_ready-kept begun rd next (one.gives_ready hart h begun rd next way wants)
       call-kept GiveDone begun rd next wants = give_done-kept begun rd next (one.gives_done hart h begun rd next way wants)
 

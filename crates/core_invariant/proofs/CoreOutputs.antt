@@ -7,6 +7,7 @@ use Rattle.isa_model.specs.Alone.{last_of}
 use Rattle.hart_model.specs.Context.{BodyState, ContextState, DoneState, task_of}
 use Rattle.hart_model.specs.HartState.{HartState}
 use Rattle.core_model.specs.declared.loaded.Loaded.{Loaded}
+use Rattle.core_model.specs.Board.{all_ready}
 use Rattle.core_model.specs.Core.{CoreState}
 use Rattle.core_model.specs.Soundness.{IsBodyCase, IsEndedCase}
 use Rattle.core_model.specs.Routines.{HoldsSame, IsReadyContext}
@@ -82,7 +83,7 @@ outputs-sound k loaded c kept = record {
   waiting = All-weaker (IsWaitingTask loaded.tasks) (λ (b : BodyState). IsOutputOf loaded.tasks b.task_no b.output) (waiting_output loaded.tasks)
       c.board.waiting kept.waiting;
   ready = All-weaker (IsReadyContext loaded.tasks) (λ (x : ContextState). IsOutputOf loaded.tasks x.body.task_no x.body.output) (ready_output loaded.tasks)
-      c.board.ready kept.ready;
+      (all_ready c.board.ready) kept.ready;
   held = λ i h is. way_output loaded.tasks k i h (kept.harts i h is);
   ended = All-weaker (IsEndedCase loaded.tasks) (λ (d : DoneState). IsOutputOf loaded.tasks d.task_no d.output) (ended_output loaded.tasks)
       c.board.ended kept.ended;

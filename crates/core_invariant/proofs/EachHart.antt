@@ -19,7 +19,7 @@ use Rattle.core_model.specs.Soundness.{entries_held}
 use Rattle.symbolic_run.specs.Laws.{PathsLead}
 use Rattle.symbolic_run.specs.Ways.{GoesOnTo}
 use Rattle.symbolic_run.proofs.Ways.{leads-map, leads-first, holds-entries}
-use Rattle.core_invariant.specs.KernelStates.{KernelParts, IsKernel, middle_at, idle_at, give_ready_index, give_done_index, take_index}
+use Rattle.core_invariant.specs.KernelStates.{KernelParts, IsKernel, middle_at, give_ready_index, give_done_index, take_index}
 use Rattle.core_model.specs.Routines.{IsUserState}
 use Rattle.core_invariant.specs.CutPoints.{IsCallTrap, IsGivingReady, IsGivingDone, IsEmptyHanded, IsAtCutPoint, IsOnItsWay}
 use Rattle.core_invariant.specs.UserLeads.{IsUserOutcome, UserStepLeads}

@@ -5,7 +5,7 @@ use Rattle.std.specs.List.{count_by}
 use Rattle.std.proofs.lemmas.Bool.{eq-eqb, lt-ltb, le-ltb}
 use Rattle.hart_model.specs.Context.{BodyState, ContextState, DoneState}
 use Rattle.core_model.specs.declared.home.Home.TheVariants.{Waiting, Slot, Hart, Ended}
-use Rattle.core_model.specs.Board.{BoardState, OutEntry}
+use Rattle.core_model.specs.Board.{BoardState, OutEntry, all_ready}
 use Rattle.core_model.specs.Homes.{home_of}
 use Rattle.core_model.specs.Soundness.{home_count}
 use Rattle.core_model.proofs.Lists.{bit, count-cons}
@@ -81,7 +81,7 @@ module _ (tasks : ℕ) (b : BoardState) (homes : HasOneHomeEach tasks b) where
       let none = no_homes t le in
       rw (
         find-none (waits_as t) b.waiting (omega arith),
-        find-none (ready_as t) b.ready (omega arith),
+        find-none (ready_as t) (all_ready b.ready) (omega arith),
         find-none (out_as t) b.out (omega arith),
         find-none (ended_as t) b.ended (omega arith),
       ) refl
@@ -94,12 +94,12 @@ module _ (tasks : ℕ) (b : BoardState) (homes : HasOneHomeEach tasks b) where
       let is = found (waits_as t) b.waiting body (omega arith) here (eq-eqb t t refl) in
       rw is refl
 
-  pub ready-home : (c : ContextState) → Contains b.ready c → home_of b c.body.task_no ≡ Some (Slot c.slot)
+  pub ready-home : (c : ContextState) → Contains (all_ready b.ready) c → home_of b c.body.task_no ≡ Some (Slot c.slot)
   ready-home c here =
       let t = c.body.task_no in
       let once = at_most_one t in
-      let more = counted (ready_as t) b.ready c here (eq-eqb t t refl) in
-      let is = found (ready_as t) b.ready c (omega arith) here (eq-eqb t t refl) in
+      let more = counted (ready_as t) (all_ready b.ready) c here (eq-eqb t t refl) in
+      let is = found (ready_as t) (all_ready b.ready) c (omega arith) here (eq-eqb t t refl) in
       rw (find-none (waits_as t) b.waiting (omega arith), is) refl
 
   pub out-home : (o : OutEntry) → Contains b.out o → home_of b o.task_no ≡ Some (Hart o.hart o.slot)
@@ -108,7 +108,7 @@ module _ (tasks : ℕ) (b : BoardState) (homes : HasOneHomeEach tasks b) where
       let once = at_most_one t in
       let more = counted (out_as t) b.out o here (eq-eqb t t refl) in
       let is = found (out_as t) b.out o (omega arith) here (eq-eqb t t refl) in
-      rw (find-none (waits_as t) b.waiting (omega arith), find-none (ready_as t) b.ready (omega arith), is) refl
+      rw (find-none (waits_as t) b.waiting (omega arith), find-none (ready_as t) (all_ready b.ready) (omega arith), is) refl
 
   pub ended-home : (d : DoneState) → Contains b.ended d → home_of b d.task_no ≡ Some Ended
   ended-home d here =
@@ -116,4 +116,4 @@ module _ (tasks : ℕ) (b : BoardState) (homes : HasOneHomeEach tasks b) where
       let once = at_most_one t in
       let more = counted (ended_as t) b.ended d here (eq-eqb t t refl) in
       let is = found (ended_as t) b.ended d (omega arith) here (eq-eqb t t refl) in
-      rw (find-none (waits_as t) b.waiting (omega arith), find-none (ready_as t) b.ready (omega arith), find-none (out_as t) b.out (omega arith), is) refl
+      rw (find-none (waits_as t) b.waiting (omega arith), find-none (ready_as t) (all_ready b.ready) (omega arith), find-none (out_as t) b.out (omega arith), is) refl

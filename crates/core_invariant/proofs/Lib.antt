@@ -75,10 +75,13 @@ pub mod Homes
 pub mod OneHome
 pub mod OutFits
 pub mod Actions
+-- The two bands of ready tasks.
+pub mod BandsFirst
 -- The laws.
 pub mod FromHarts
 pub mod Proved
 -- Examples.
 mod TryStates
 mod TryCores
+mod TryBands
 mod TryParts

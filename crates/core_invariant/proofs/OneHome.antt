@@ -7,7 +7,7 @@ use Rattle.std.proofs.lemmas.List.Elements.{Contains-append_right}
 use Rattle.hart_model.specs.Context.{BodyState, ContextState, DoneState}
 use Rattle.core_model.specs.declared.home.Home.{Home}
 use Rattle.core_model.specs.declared.home.Home.TheVariants.{Waiting, Slot, Hart, Ended}
-use Rattle.core_model.specs.Board.{BoardState, OutEntry}
+use Rattle.core_model.specs.Board.{BoardState, OutEntry, all_ready}
 use Rattle.core_model.specs.Homes.{home_or, home_of}
 use Rattle.core_invariant.specs.Homes.{IsHomeOf, HasExactHomes}
 use Rattle.core_model.proofs.Counts.{waits_as, ready_as, out_as, ended_as}
@@ -28,7 +28,7 @@ found_tells {X} p (y ∷ ys) x e = by_test (p y) refl e (found_tells p ys x)
 module _ (b : BoardState) (t : ℕ) where
   -- a home that is read off the lists says where the task is
   told : (home : Home) (w : Option BodyState) (r : Option ContextState) (o : Option OutEntry) (e : Option DoneState)
-      → find (waits_as t) b.waiting ≡ w → find (ready_as t) b.ready ≡ r → find (out_as t) b.out ≡ o → find (ended_as t) b.ended ≡ e
+      → find (waits_as t) b.waiting ≡ w → find (ready_as t) (all_ready b.ready) ≡ r → find (out_as t) b.out ≡ o → find (ended_as t) b.ended ≡ e
       → home_or (option_map (λ body. Waiting) w) (home_or (option_map (λ c. Slot c.slot) r)
       (home_or (option_map (λ x. Hart x.hart x.slot) o) (option_map (λ d. Ended) e))) ≡ Some home
       → IsHomeOf b t home
@@ -37,7 +37,7 @@ module _ (b : BoardState) (t : ℕ) where
       let this : Waiting ≡ home = cc same in
       subst (IsHomeOf b t) this (body, tells.0, eqb-true body.task_no t tells.1)
   told home None (Some c) o e w_is r_is o_is e_is same =
-      let tells = found_tells (ready_as t) b.ready c r_is in
+      let tells = found_tells (ready_as t) (all_ready b.ready) c r_is in
       let this : Slot c.slot ≡ home = cc same in
       subst (IsHomeOf b t) this (c, tells.0, eqb-true c.body.task_no t tells.1, refl)
   told home None None (Some x) e w_is r_is o_is e_is same =
@@ -52,7 +52,7 @@ module _ (b : BoardState) (t : ℕ) where
 
   pub home-told : (home : Home) → home_of b t ≡ Some home → IsHomeOf b t home
   home-told home is =
-      told home (find (waits_as t) b.waiting) (find (ready_as t) b.ready) (find (out_as t) b.out) (find (ended_as t) b.ended) refl refl refl refl is
+      told home (find (waits_as t) b.waiting) (find (ready_as t) (all_ready b.ready)) (find (out_as t) b.out) (find (ended_as t) b.ended) refl refl refl refl is
 
 -- some home where one of the lists has the task
 map_is_some : {X Y : Type 0} (f : X → Y) (o : Option X) → IsSome o → IsSome (option_map f o)
@@ -83,7 +83,7 @@ module _ (tasks : ℕ) (b : BoardState) (homes : HasOneHomeEach tasks b) where
   pub has-home : (t : ℕ) → t < tasks → IsSome (home_of b t)
   has-home t lt =
       let w = option_map (λ (body : BodyState). Waiting) (find (waits_as t) b.waiting) in
-      let r = option_map (λ (c : ContextState). Slot c.slot) (find (ready_as t) b.ready) in
+      let r = option_map (λ (c : ContextState). Slot c.slot) (find (ready_as t) (all_ready b.ready)) in
       let o = option_map (λ (x : OutEntry). Hart x.hart x.slot) (find (out_as t) b.out) in
       let e = option_map (λ (d : DoneState). Ended) (find (ended_as t) b.ended) in
       let one = one_home tasks b homes t lt in
@@ -91,12 +91,12 @@ module _ (tasks : ℕ) (b : BoardState) (homes : HasOneHomeEach tasks b) where
       (λ (some : 0 < count_by (waits_as t) b.waiting). first_is_some w (home_or r (home_or o e))
       (map_is_some _ _ (find-some (waits_as t) b.waiting (omega arith))))
       (λ (none : count_by (waits_as t) b.waiting ≤ 0). second_is_some w (home_or r (home_or o e)) (⊎_elim
-      (λ (some : 0 < count_by (ready_as t) b.ready). first_is_some r (home_or o e) (map_is_some _ _ (find-some (ready_as t) b.ready (omega arith))))
-      (λ (also : count_by (ready_as t) b.ready ≤ 0). second_is_some r (home_or o e) (⊎_elim
+      (λ (some : 0 < count_by (ready_as t) (all_ready b.ready)). first_is_some r (home_or o e) (map_is_some _ _ (find-some (ready_as t) (all_ready b.ready) (omega arith))))
+      (λ (also : count_by (ready_as t) (all_ready b.ready) ≤ 0). second_is_some r (home_or o e) (⊎_elim
       (λ (some : 0 < count_by (out_as t) b.out). first_is_some o e (map_is_some _ _ (find-some (out_as t) b.out (omega arith))))
       (λ (too : count_by (out_as t) b.out ≤ 0). second_is_some o e (map_is_some _ _ (find-some (ended_as t) b.ended (omega arith))))
       (cases_lt 0 (count_by (out_as t) b.out))))
-      (cases_lt 0 (count_by (ready_as t) b.ready))))
+      (cases_lt 0 (count_by (ready_as t) (all_ready b.ready)))))
       (cases_lt 0 (count_by (waits_as t) b.waiting))
 
   pub exact-homes : HasExactHomes tasks b

@@ -17,14 +17,14 @@ use Rattle.symbolic_run.specs.AbstractCell.{AbstractCell, AbstractState, AnyTagg
 use Rattle.symbolic_run.specs.AbstractRun.{run_of, instrs_of}
 use Rattle.symbolic_run.specs.Concretization.{Valuation, IsSound, AllDenote}
 use Rattle.symbolic_run.specs.SymbolicPath.{PathState, StandAt, IsAsPathSays}
-use Rattle.symbolic_run.proofs.Stand.{words-stand}
+use Rattle.symbolic_run.proofs.Stand.{stand-among}
 use Rattle.symbolic_run.proofs.PartRuns.{comes-map, IsOnPath}
 use Rattle.symbolic_run.proofs.StraightRuns.{run-of-part, run-sound, run-ends}
 use Rattle.core_invariant.proofs.KernelCells.{reached, saved_cells, at_start}
 use Rattle.core_invariant.proofs.OwnCells.{own-value}
 use Rattle.core_invariant.proofs.PathStates.{register-denoted}
 use Rattle.core_invariant.proofs.ReadyEnd.{reg-is}
-use Rattle.core_invariant.proofs.TakenStands.{taken_setting, taken-setting-sound, pc_of, words-stand as context-stands, kernel-regs-stand, data-truthful}
+use Rattle.core_invariant.proofs.TakenStands.{taken_setting, taken-setting-sound, pc_of, words-stand, kernel-regs-stand, data-truthful}
 use Rattle.core_invariant.proofs.TakenPath.{held-as-before}
 use Rattle.core_invariant.proofs.PartSaves.{address-is, latch-untagged}
 
@@ -50,7 +50,7 @@ restore-stands words runs s front rest low =
     let part = run-of-part reached words (saved_cells s (PublicNumber 0)) ends.0 ends.1 in
     let few = runs.few in
     let count = part.count in
-    words-stand front words rest (instrs_of words) (omega (arith, low)) (omega (arith, few, count)) part.decode
+    stand-among front words rest (instrs_of words) (omega (arith, low)) (omega (arith, few, count)) part.decode
 
 module _ (tasks : List Task) (number at : ℕ) (h : HartState) (c : ContextState) (is : IsRestoring tasks number at h c) where
   abbrev setting : Valuation
@@ -81,7 +81,7 @@ module _ (tasks : List Task) (number at : ℕ) (h : HartState) (c : ContextState
       scr = is.scratch;
       mul = is.latches Mul tt;
       zero = is.sound.zero;
-      slot = subst (λ (o : Option ContextState). AllDenote setting start.slot (held_words o)) (sym is.held) (context-stands tasks c is.context);
+      slot = subst (λ (o : Option ContextState). AllDenote setting start.slot (held_words o)) (sym is.held) (words-stand tasks c is.context);
       no_data = refl;
     };
     registers = is.sound.registers;

@@ -25,7 +25,7 @@ use Rattle.symbolic_run.specs.AbstractRun.{run_of, instrs_of}
 use Rattle.symbolic_run.specs.Concretization.{Valuation, IsSound, Denotes, IsDenotedBy}
 use Rattle.symbolic_run.specs.SymbolicPath.{PathState, StandAt, IsAsPathSays}
 use Rattle.symbolic_run.proofs.OneWrite.{IsSpokenOf, denoted-public, cell-denoted}
-use Rattle.symbolic_run.proofs.Stand.{words-stand}
+use Rattle.symbolic_run.proofs.Stand.{stand-among}
 use Rattle.symbolic_run.proofs.PartRuns.{comes-map, IsOnPath}
 use Rattle.symbolic_run.proofs.StraightRuns.{run-of-part, run-sound, run-ends}
 use Rattle.core_invariant.specs.CutPoints.{IsAtTrap}
@@ -92,7 +92,7 @@ save-stands words runs s rest =
     let part = run-of-part reached words (trapped_cells s) ends.0 ends.1 in
     let few = runs.few in
     let count = part.count in
-    words-stand [] words rest (instrs_of words) (omega arith) (omega (arith, few, count)) part.decode
+    stand-among [] words rest (instrs_of words) (omega arith) (omega (arith, few, count)) part.decode
 
 module _ (words : List ℕ) (runs : RunsSave words) (tasks : List Task) (number n : ℕ) (h : HartState) (c : ContextState) (cause : ℕ)
     (trap : IsAtTrap tasks number n cause h c) where

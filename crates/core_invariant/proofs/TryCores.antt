@@ -1,5 +1,5 @@
 -- A loaded bundle of two tasks, for two harts and one slot, to which the laws apply: a hart comes into user mode, and a task ends.
-use Rattle.std.proofs.Common.{◌≡◌, refl, ℕ, zero, suc, ◌<◌, inl, List, [], ◌∷◌, All, replicate, get_or, slice_get, slice_index_or, Some, subst, arith, lit≤}
+use Rattle.std.proofs.Common.{◌≡◌, ◌≤◌, refl, ℕ, zero, suc, ◌<◌, inl, List, [], ◌∷◌, All, replicate, get_or, slice_get, slice_index_or, Some, subst, arith, lit≤}
 use Rattle.std.proofs.lemmas.List.Elements.{All-nil, All-cons, All-head}
 use Rattle.isa_model.specs.declared.task.Task.{Task}
 use Rattle.isa_model.specs.declared.ends.End.TheVariants.{Exited}
@@ -38,11 +38,11 @@ task_at t = record {
   tape = [];
 }
 
-abbrev plan : Plan
+abbrev pub plan : Plan
 plan = record { quanta = []; tail = 4096 }
 
 abbrev pub two_tasks : Loaded
-two_tasks = record { harts = 2; slots = 1; plans = plan ∷ plan ∷ []; tasks = task_at 0 ∷ task_at 1 ∷ []; worlds = []; events = []; order = [] }
+two_tasks = record { harts = 2; slots = 1; plans = plan ∷ plan ∷ []; tasks = task_at 0 ∷ task_at 1 ∷ []; bands = 0 ∷ 0 ∷ []; worlds = []; events = []; order = [] }
 
 -- a core may be made of it
 plan_fits : IsPlanWithinLimits plan
@@ -82,6 +82,8 @@ two_tasks_load = record {
     tasks_low = lit≤ tt;
     tasks_high = lit≤ tt;
     tasks = at_places;
+    band_each = refl;
+    bands = All-cons (λ (band : ℕ). band ≤ 1) 0 (0 ∷ []) (lit≤ tt) (All-cons (λ (band : ℕ). band ≤ 1) 0 [] (lit≤ tt) (All-nil _));
     worlds_high = lit≤ tt;
     worlds = All-nil _;
     worlds_as_long = tt;

@@ -23,6 +23,7 @@ use Rattle.hart_model.specs.UserStep.{user_step, is_fuel_used}
 use Rattle.hart_model.specs.MachineStep.{machine_step}
 use Rattle.core_model.specs.declared.event.Event.{Event}
 use Rattle.core_model.specs.declared.event.Event.TheVariants.{Go}
+use Rattle.core_model.specs.Board.{all_ready}
 use Rattle.core_model.specs.Core.{CoreState, core_after, core_from}
 use Rattle.core_model.specs.Soundness.{IsUserCase, IsReadyCase}
 use Rattle.core_model.specs.Routines.{IsLatchPlace, IsReadyContext, IsUserState, IsTrapped, IsRestoring}
@@ -167,7 +168,7 @@ latch-is (SlotWord i) is = absurd is
 latch-is (DataWord i) is = absurd is
 
 -- the context is ready at boot
-ready_at_boot : (core_after two_tasks emitted_parts.code []).board.ready ≡ at_boot ∷ []
+ready_at_boot : all_ready (core_after two_tasks emitted_parts.code []).board.ready ≡ at_boot ∷ []
 unfolding core_from user_step machine_step is_allowed_by csr_cell with_csr
 ready_at_boot = refl
 

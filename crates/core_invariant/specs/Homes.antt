@@ -3,13 +3,13 @@ use Rattle.std.specs.Prelude.{◌≡◌, ℕ, ◌<◌, ◌≤◌, Contains, Some
 use Rattle.hart_model.specs.Context.{BodyState, ContextState, DoneState}
 use Rattle.core_model.specs.declared.home.Home.{Home}
 use Rattle.core_model.specs.declared.home.Home.TheVariants.{Waiting, Slot, Hart, Ended}
-use Rattle.core_model.specs.Board.{BoardState, OutEntry}
+use Rattle.core_model.specs.Board.{BoardState, OutEntry, all_ready}
 use Rattle.core_model.specs.Homes.{home_of}
 
 -- The task of this number waits; is ready in this slot; is out on this hart, in this slot; or has ended.
 abbrev pub IsHomeOf : BoardState → ℕ → Home → Type 0
 IsHomeOf b t Waiting = (body : BodyState) × Contains b.waiting body × (body.task_no ≡ t)
-IsHomeOf b t (Slot slot) = (c : ContextState) × Contains b.ready c × (c.body.task_no ≡ t) × (c.slot ≡ slot)
+IsHomeOf b t (Slot slot) = (c : ContextState) × Contains (all_ready b.ready) c × (c.body.task_no ≡ t) × (c.slot ≡ slot)
 IsHomeOf b t (Hart hart slot) = (o : OutEntry) × Contains b.out o × (o.task_no ≡ t) × (o.hart ≡ hart) × (o.slot ≡ slot)
 IsHomeOf b t Ended = (d : DoneState) × Contains b.ended d × (d.task_no ≡ t)
 

@@ -6,7 +6,7 @@ use Rattle.isa_model.specs.TaskPlaces.{IsValidTask}
 use Rattle.hart_model.specs.Context.{BodyState, ContextState, task_of}
 use Rattle.hart_model.specs.HartState.{HartState}
 use Rattle.core_model.specs.declared.loaded.Loaded.{Loaded}
-use Rattle.core_model.specs.Board.{OutEntry}
+use Rattle.core_model.specs.Board.{OutEntry, all_ready}
 use Rattle.core_model.specs.Core.{CoreState}
 use Rattle.core_model.specs.Explained.{IsLogExplained}
 use Rattle.core_model.specs.Soundness.{IsWaitingCase, IsEndedCase, home_count, slot_count, entries_held}
@@ -24,10 +24,10 @@ pub record IsCoreKept (k : KernelParts) (loaded : Loaded) (c : CoreState) : Type
   pub harts : (i : ℕ) (h : HartState) → slice_get c.harts i ≡ Some h → IsOnItsWay loaded.tasks k i h
   pub homes : (task_no : ℕ) → home_count c.board task_no ≡ (if nat_lt task_no (length loaded.tasks) then 1 else 0)
   pub slot_once : (slot : ℕ) → slot_count c.board slot ≤ 1
-  pub ready_slots : All (λ (context : ContextState). context.slot < loaded.slots) c.board.ready
+  pub ready_slots : All (λ (context : ContextState). context.slot < loaded.slots) (all_ready c.board.ready)
   pub out_slots : All (λ (o : OutEntry). o.slot < loaded.slots) c.board.out
   pub waiting : All (IsWaitingTask loaded.tasks) c.board.waiting
-  pub ready : All (IsReadyContext loaded.tasks) c.board.ready
+  pub ready : All (IsReadyContext loaded.tasks) (all_ready c.board.ready)
   pub ended : All (IsEndedCase loaded.tasks) c.board.ended
   pub out : (i : ℕ) (h : HartState) → slice_get c.harts i ≡ Some h → filter (λ (o : OutEntry). o.hart == i) c.board.out ≡ entries_held i h.held
   pub out_exists : All (λ (o : OutEntry). o.hart < loaded.harts) c.board.out

@@ -6,3 +6,4 @@ pub mod Invariant
 pub mod Laws
 pub mod Homes
 pub mod Outputs
+pub mod BandOrder

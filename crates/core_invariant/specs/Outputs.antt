@@ -7,6 +7,7 @@ use Rattle.hart_model.specs.Context.{BodyState, ContextState, DoneState}
 use Rattle.hart_model.specs.HartState.{HartState}
 use Rattle.core_model.specs.declared.loaded.Loaded.{Loaded}
 use Rattle.core_model.specs.Core.{CoreState}
+use Rattle.core_model.specs.Board.{all_ready}
 
 -- There is a task of this number, and this is the beginning of the output of its whole run alone.
 pub record IsOutputOf (tasks : List Task) (task_no : ℕ) (output : List ℕ) : Type 0 where
@@ -22,6 +23,6 @@ IsHeldOutput tasks (Some c) = IsOutputOf tasks c.body.task_no c.body.output
 -- So it is of each waiting task, each ready one, each one that a hart holds, and each ended one.
 pub record AreOutputsSound (loaded : Loaded) (c : CoreState) : Type 0 where
   pub waiting : All (λ (b : BodyState). IsOutputOf loaded.tasks b.task_no b.output) c.board.waiting
-  pub ready : All (λ (context : ContextState). IsOutputOf loaded.tasks context.body.task_no context.body.output) c.board.ready
+  pub ready : All (λ (context : ContextState). IsOutputOf loaded.tasks context.body.task_no context.body.output) (all_ready c.board.ready)
   pub held : (i : ℕ) (h : HartState) → slice_get c.harts i ≡ Some h → IsHeldOutput loaded.tasks h.held
   pub ended : All (λ (d : DoneState). IsOutputOf loaded.tasks d.task_no d.output) c.board.ended

@@ -1,5 +1,6 @@
 //! Laws of the cores that run a kernel: each is the contract of a function that does nothing.
 
+ghost use Rattle.core_invariant.specs.BandOrder.{BandsAlwaysGoFirst};
 ghost use Rattle.core_invariant.specs.Laws.{CoreStaysSound, OutputsStayBeginnings, EachTaskHasOneHome, NoHartWedges, EmittedIsKernel};
 
 /// After every list of events a core of a loaded bundle is sound: each task has one home, and no slot or hart two tasks; each ready
@@ -17,6 +18,12 @@ pub fn outputs_stay_beginnings()
 /// After every list of events each task stands in exactly one list of the board, and its home tells which.
 pub fn each_task_has_one_home()
     ensures homes { EachTaskHasOneHome }
+{}
+
+/// After every list of events, under whatever code, whatever is ready stands in the list of its task's band, and the next event takes a task
+/// of band 1 only where no task of band 0 is ready.
+pub fn bands_always_go_first()
+    ensures bands { BandsAlwaysGoFirst }
 {}
 
 /// After every list of events no hart is wedged: its next step goes on or comes to a queue action. So no instruction of a kernel's code

@@ -6,6 +6,6 @@
 pub mod laws;
 
 pub use laws::{
-    core_stays_sound, each_task_has_one_home, emitted_is_kernel, no_hart_wedges,
-    outputs_stay_beginnings,
+    bands_always_go_first, core_stays_sound, each_task_has_one_home, emitted_is_kernel,
+    no_hart_wedges, outputs_stay_beginnings,
 };

@@ -16,10 +16,11 @@ use Rattle.hart_model.specs.HartStep.{hart_step, answer_take, answer_give}
 use Rattle.core_model.specs.declared.event.Event.{Event}
 use Rattle.core_model.specs.declared.event.Event.TheVariants.{Go, Tick}
 use Rattle.core_model.specs.declared.loaded.Loaded.{Loaded}
-use Rattle.core_model.specs.Board.{BoardState, take_from, give_ready_of, give_done_of, boot_board}
+use Rattle.core_model.specs.Board.{BoardState, take_from, give_ready_of, give_done_of, boot_board, Front, all_ready, front_of}
+use Rattle.core_model.proofs.ReadyLists.{front-is}
 use Rattle.core_model.specs.Core.{CoreState, with_hart, after_take, after_give_done, after_call, after_step, after_go, after_tick, after_event, core_from, boot_core, bodies_from, harts_from, core_after, log_of}
 use Rattle.core_model.specs.Loaded.{IsLoaded}
-use Rattle.core_model.specs.LowEquivalence.{ArePairwise, AreAlike, AgreesPublicly, AgreePublicly}
+use Rattle.core_model.specs.LowEquivalence.{AreAlike, AgreesPublicly, AgreePublicly}
 use Rattle.core_invariant.specs.KernelStates.{KernelParts}
 use Rattle.core_model.specs.Routines.{IsReadyContext}
 use Rattle.core_invariant.specs.OneHart.{EachHart}
@@ -30,7 +31,7 @@ use Rattle.core_invariant.proofs.Boot.{boot-kept, boot-hart}
 use Rattle.core_model.specs.AlikeHarts.{AreContextsAlike, AreHeldAlike}
 use Rattle.noninterference.specs.AlikeCores.{AreBoardsAlike, AreLeftTogether, AreOnWayTogether, AreStepsTogether, BothHarts}
 use Rattle.noninterference.proofs.Pairs.{pairwise-append}
-use Rattle.noninterference.proofs.AlikeBoards.{boot-boards, boards-empty, boards-taken, boards-ready, boards-done}
+use Rattle.noninterference.proofs.AlikeBoards.{AreNextAlike, fronts-alike, boot-boards, boards-empty, boards-taken, boards-ready, boards-done}
 
 -- two cores as every event keeps them: alike, and the harts of one number together
 pub record AreCoresTogether (Together : ℕ → HartState → HartState → Type 0) (c d : CoreState) : Type 0 where
@@ -76,23 +77,26 @@ module _ (Together : ℕ → HartState → HartState → Type 0) (k : KernelPart
         on : AreOnWayTogether Together loaded.tasks other.tasks k hart h g
         on = record { way = kept.harts hart h is; other = kept_too.harts hart g is_too; both = together.harts hart h g is is_too }
 
-        take-together : (begun started : List CellWrite) (rd next : ℕ) (ready more : List ContextState) → hart_step k.code.words h ≡ Wants Take begun rd next
-            → hart_step k.code.words g ≡ Wants Take started rd next → c.board.ready ≡ ready → d.board.ready ≡ more → ArePairwise AreContextsAlike ready more
-            → AreCoresTogether Together (after_take c hart h begun rd next (take_from c.board hart ready)).core
-            (after_take d hart g started rd next (take_from d.board hart more)).core
-        take-together begun started rd next [] [] wants wants_too e f pairs =
+        take-together : (begun started : List CellWrite) (rd next : ℕ) (front other_front : Option Front) → hart_step k.code.words h ≡ Wants Take begun rd next
+            → hart_step k.code.words g ≡ Wants Take started rd next → front_of c.board.ready.first c.board.ready.second ≡ front
+            → front_of d.board.ready.first d.board.ready.second ≡ other_front → AreNextAlike front other_front
+            → AreCoresTogether Together (after_take c hart h begun rd next (take_from c.board hart front)).core
+            (after_take d hart g started rd next (take_from d.board hart other_front)).core
+        take-together begun started rd next None None wants wants_too e f pairs =
             with-hart-together (answer_take begun rd next None h) (answer_take started rd next None g)
-            (take_from c.board hart []).board (take_from d.board hart []).board
+            (take_from c.board hart None).board (take_from d.board hart None).board
             (both.takes hart h g begun started rd next None None on wants wants_too tt tt tt) (boards-empty hart c.board d.board together.board)
-        take-together begun started rd next [] (y ∷ ys) wants wants_too e f pairs = absurd pairs
-        take-together begun started rd next (x ∷ xs) [] wants wants_too e f pairs = absurd pairs
-        take-together begun started rd next (x ∷ xs) (y ∷ ys) wants wants_too e f pairs =
-            let can = All-head (IsReadyContext loaded.tasks) x xs (subst (All (IsReadyContext loaded.tasks)) e kept.ready) in
-            let can_too = All-head (IsReadyContext other.tasks) y ys (subst (All (IsReadyContext other.tasks)) f kept_too.ready) in
-            with-hart-together (answer_take begun rd next (Some x) h) (answer_take started rd next (Some y) g)
-            (take_from c.board hart (x ∷ xs)).board (take_from d.board hart (y ∷ ys)).board
-            (both.takes hart h g begun started rd next (Some x) (Some y) on wants wants_too can can_too pairs.0)
-            (boards-taken hart c.board d.board together.board x y xs ys pairs.0 pairs.1)
+        take-together begun started rd next None (Some y) wants wants_too e f pairs = absurd pairs
+        take-together begun started rd next (Some x) None wants wants_too e f pairs = absurd pairs
+        take-together begun started rd next (Some x) (Some y) wants wants_too e f pairs =
+            let in_front = front-is c.board.ready.first c.board.ready.second x e in
+            let in_front_too = front-is d.board.ready.first d.board.ready.second y f in
+            let can = All-head (IsReadyContext loaded.tasks) x.context (all_ready x.left) (subst (All (IsReadyContext loaded.tasks)) in_front kept.ready) in
+            let can_too = All-head (IsReadyContext other.tasks) y.context (all_ready y.left) (subst (All (IsReadyContext other.tasks)) in_front_too kept_too.ready) in
+            with-hart-together (answer_take begun rd next (Some x.context) h) (answer_take started rd next (Some y.context) g)
+            (take_from c.board hart (Some x)).board (take_from d.board hart (Some y)).board
+            (both.takes hart h g begun started rd next (Some x.context) (Some y.context) on wants wants_too can can_too pairs.context)
+            (boards-taken hart c.board d.board together.board x y pairs)
 
         ready-together : (begun started : List CellWrite) (rd next : ℕ) (held held_too : Option ContextState)
             → hart_step k.code.words h ≡ Wants GiveReady begun rd next → hart_step k.code.words g ≡ Wants GiveReady started rd next
@@ -130,7 +134,8 @@ module _ (Together : ℕ → HartState → HartState → Type 0) (k : KernelPart
             → hart_step k.code.words g ≡ Wants call started rd next
             → AreCoresTogether Together (after_call c hart h call begun rd next h.held).core (after_call d hart g call started rd next g.held).core
         call-together Take begun started rd next wants wants_too =
-            take-together begun started rd next c.board.ready d.board.ready wants wants_too refl refl together.board.ready
+            take-together begun started rd next (front_of c.board.ready.first c.board.ready.second) (front_of d.board.ready.first d.board.ready.second) wants wants_too refl refl
+            (fronts-alike c.board.ready.first c.board.ready.second d.board.ready.first d.board.ready.second together.board.first together.board.second)
         call-together GiveReady begun started rd next wants wants_too =
             ready-together begun started rd next h.held g.held wants wants_too (both.holds_alike hart h g GiveReady begun started rd next on wants wants_too)
         call-together GiveDone begun started rd next wants wants_too =
@@ -202,9 +207,10 @@ module _ (Together : ℕ → HartState → HartState → Type 0) (k : KernelPart
   pub boot-together : AreAlike loaded other → AreCoresTogether Together (boot_core loaded k.code) (boot_core other k.code)
   boot-together alike =
       let same : harts_from 0 loaded.harts k.code.take ≡ harts_from 0 other.harts k.code.take = ap (λ n. harts_from 0 n k.code.take) alike.harts in
-      let P : ℕ → Type 0 = λ slots. AreBoardsAlike (boot_core loaded k.code).board (boot_board slots (bodies_from 0 other.tasks)) in
+      let P : ℕ → Type 0 = λ slots. AreBoardsAlike (boot_core loaded k.code).board (boot_board slots (bodies_from 0 other.tasks) loaded.bands) in
+      let R : List ℕ → Type 0 = λ bands. AreBoardsAlike (boot_core loaded k.code).board (boot_board other.slots (bodies_from 0 other.tasks) bands) in
       record {
-        board = subst P alike.slots (boot-boards loaded.slots loaded.tasks other.tasks alike.tasks);
+        board = subst R alike.bands (subst P alike.slots (boot-boards loaded.slots loaded.bands loaded.tasks other.tasks alike.tasks));
         count = ap (λ (hs : List HartState). length hs) same;
         harts = λ i h g is there.
             let place : 0 + i ≡ i = omega arith in

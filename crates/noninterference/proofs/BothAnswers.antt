@@ -5,7 +5,6 @@ use Rattle.isa_model.specs.declared.instr.Instr.{Instr}
 use Rattle.isa_model.specs.declared.instr.Instr.TheVariants.{Jal, Branch}
 use Rattle.isa_model.specs.declared.instr.Cmp.TheVariants.{Beq}
 use Rattle.isa_model.specs.Arithmetic.{is_taken}
-use Rattle.hart_model.specs.declared.calls.QueueCall.TheVariants.{Take, GiveReady, GiveDone}
 use Rattle.hart_model.specs.declared.place.Place.TheVariants as places
 use Rattle.hart_model.specs.declared.tag.Cell.{Cell}
 use Rattle.hart_model.specs.Csrs.{public}
@@ -13,18 +12,15 @@ use Rattle.hart_model.specs.Context.{ContextState, slot_address}
 use Rattle.hart_model.specs.HartState.{HartState, hart_cell}
 use Rattle.hart_model.specs.Writes.{CellWrite, after_writes}
 use Rattle.hart_model.specs.MachineStep.{machine_instr_step}
-use Rattle.hart_model.specs.StepResult.{Wants}
 use Rattle.hart_model.specs.HartStep.{hart_step, answer_take, answer_give, take_cell, loaded_writes}
 use Rattle.core_model.specs.LowEquivalence.{ArePairwise}
 use Rattle.core_model.specs.Routines.{ticked_if}
 use Rattle.symbolic_run.proofs.Paths.{machine-step-at}
-use Rattle.core_invariant.specs.KernelStates.{KernelParts, IsKernel, middle_at, idle_at, middle_len, give_ready_index, give_done_index, take_index}
-use Rattle.core_invariant.specs.CutPoints.{IsAtCutPoint, IsEmptyHanded, IsGivingReady, IsGivingDone}
-use Rattle.core_invariant.proofs.UserSteps.{user-step-leads}
+use Rattle.core_invariant.specs.KernelStates.{KernelParts, IsKernel, middle_at, idle_at, middle_len, give_done_index, take_index}
+use Rattle.core_invariant.specs.CutPoints.{IsEmptyHanded}
 use Rattle.core_invariant.proofs.Waiting.{empty-ticked}
-use Rattle.core_invariant.proofs.Gives.{wants-give-ready, wants-give-done}
-use Rattle.core_invariant.proofs.Idle.{GoesEmpty, jumps-to-take, branches-to-idle, idles}
-use Rattle.core_invariant.proofs.Takes.{wants-take, x5-ticked}
+use Rattle.core_invariant.proofs.Idle.{GoesEmpty, jumps-to-take, branches-to-idle}
+use Rattle.core_invariant.proofs.Takes.{x5-ticked}
 use Rattle.core_model.specs.AlikeHarts.{AreHeldAlike, AreHartsAlike}
 use Rattle.noninterference.specs.AlikeSteps.{AreWritesAlike, AreLeftAlike, DecidesAlike, GoOnAlike}
 use Rattle.noninterference.specs.AlikeCores.{LedBoth}

@@ -5,7 +5,6 @@ use Rattle.isa_model.specs.declared.control.Control.{Control}
 use Rattle.isa_model.specs.declared.latch.Latch.TheVariants as latches
 use Rattle.isa_model.specs.Alone.{Executed, alone_at, after_instr, after_call}
 use Rattle.isa_model.specs.AloneValue.{alone_value}
-use Rattle.hart_model.specs.declared.tag.Mode.TheVariants.{User, Machine}
 use Rattle.hart_model.specs.Csrs.{CsrFile}
 use Rattle.hart_model.specs.Context.{ContextState, task_of}
 use Rattle.hart_model.specs.HartState.{HartState}

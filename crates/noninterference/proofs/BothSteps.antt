@@ -2,8 +2,6 @@
 use Rattle.std.proofs.Common.{◌≡◌, ℕ, zero, suc, inl, inr, pos, List, [], ◌∷◌, slice_get, Option, Some, refl, sym, ap, ◌∙◌, subst, arith}
 use Rattle.isa_model.specs.declared.task.Task.{Task}
 use Rattle.isa_model.specs.declared.instr.Instr.TheVariants.{Jal}
-use Rattle.hart_model.specs.declared.tag.Mode.TheVariants.{User, Machine}
-use Rattle.hart_model.specs.Csrs.{CsrFile}
 use Rattle.hart_model.specs.Context.{ContextState, task_of}
 use Rattle.hart_model.specs.HartState.{HartState}
 use Rattle.hart_model.specs.StepResult.{StepResult, Steps}

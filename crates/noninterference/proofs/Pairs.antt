@@ -1,5 +1,5 @@
 -- Lists that are related place by place.
-use Rattle.std.proofs.Common.{◌≡◌, ℕ, zero, suc, List, [], ◌∷◌, ◌++◌, length, take, drop, set, get_or, slice_get, Option, Some, None, refl, ap}
+use Rattle.std.proofs.Common.{◌≡◌, ℕ, zero, suc, Bool, true, false, if◌then◌else◌, List, [], ◌∷◌, ◌++◌, length, filter, take, drop, set, get_or, slice_get, Option, Some, None, refl, ap, subst}
 use Rattle.core_model.specs.LowEquivalence.{ArePairwise}
 
 -- both are there and related, or neither is there
@@ -49,6 +49,20 @@ module _ {A : Type 0} (R : A → A → Type 0) where
   pairwise-drop (suc n) [] (y ∷ ys) both = absurd both
   pairwise-drop (suc n) (x ∷ xs) [] both = absurd both
   pairwise-drop (suc n) (x ∷ xs) (y ∷ ys) both = pairwise-drop n xs ys both.1
+
+  -- those that pass a test which tells no two that are related apart
+  module _ (p : A → Bool) (same : (x y : A) → R x y → p x ≡ p y) where
+    filter_one : (test : Bool) (x y : A) (xs ys : List A) → R x y → ArePairwise R xs ys → ArePairwise R (if test then x ∷ xs else xs) (if test then y ∷ ys else ys)
+    filter_one true x y xs ys one others = (one, others)
+    filter_one false x y xs ys one others = others
+
+    pub pairwise-filter : (xs ys : List A) → ArePairwise R xs ys → ArePairwise R (filter p xs) (filter p ys)
+    pairwise-filter [] [] both = tt
+    pairwise-filter [] (y ∷ ys) both = absurd both
+    pairwise-filter (x ∷ xs) [] both = absurd both
+    pairwise-filter (x ∷ xs) (y ∷ ys) both =
+        let P : Bool → Type 0 = λ test. ArePairwise R (filter p (x ∷ xs)) (if test then y ∷ filter p ys else filter p ys) in
+        subst P (same x y both.0) (filter_one (p x) x y (filter p xs) (filter p ys) both.0 (pairwise-filter xs ys both.1))
 
   -- a list and itself
   pub pairwise-same : ((x : A) → R x x) → (xs : List A) → ArePairwise R xs xs

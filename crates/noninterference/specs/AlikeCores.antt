@@ -24,13 +24,15 @@ pub record AreDoneAlike (d e : DoneState) : Type 0 where
   pub output : length d.output ≡ length e.output
   pub end : kind_of d.end ≡ kind_of e.end
 
--- Two boards: what waits, is ready and has ended is alike one by one, and the same is out, by the same actions.
+-- Two boards: what waits, is ready and has ended is alike one by one, and the same is out, by the same actions and bands.
 pub record AreBoardsAlike (b e : BoardState) : Type 0 where
   pub waiting : ArePairwise AreBodiesAlike b.waiting e.waiting
-  pub ready : ArePairwise AreContextsAlike b.ready e.ready
+  pub first : ArePairwise AreContextsAlike b.ready.first e.ready.first
+  pub second : ArePairwise AreContextsAlike b.ready.second e.ready.second
   pub out : b.out ≡ e.out
   pub ended : ArePairwise AreDoneAlike b.ended e.ended
   pub order : b.order ≡ e.order
+  pub bands : b.bands ≡ e.bands
 
 -- two harts that are together, with entries that agree publicly
 pub record AreLeftTogether (Together : ℕ → HartState → HartState → Type 0) (number : ℕ) (a b : HartAndProbes) : Type 0 where

@@ -39,7 +39,7 @@ WritesFit [] (u ∷ us) = ⊥
 WritesFit (w ∷ ws) [] = ⊥
 WritesFit (w ∷ ws) (u ∷ us) = WriteFits w u × WritesFit ws us
 
--- What stays: how many registers and slot words there are, and the words of the slot that keep no register.
+-- What stays: how many words the slot has, and those of them that keep no register.
 pub record StaysBeside (a b : AbstractState) : Type 0 where
   pub slot_len : length b.slot ≡ length a.slot
   pub others : (i : ℕ) → (i ≡ 0) ⊎ (32 ≤ i) → get_or b.slot i cells.AnyTagged ≡ get_or a.slot i cells.AnyTagged

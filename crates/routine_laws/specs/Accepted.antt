@@ -46,7 +46,7 @@ at_restore = record {
 abbrev pub AreWordsSaved : Contents → Type 0
 AreWordsSaved c = (i : ℕ) → 1 ≤ i → i < 32 → content_at c (places.SlotWord i) ≡ TaskReg i
 
--- no latch but registers is tagged
+-- no latch other than a register is tagged
 abbrev pub AreLatchesUntagged : Contents → Type 0
 AreLatchesUntagged c = (p : Place) → IsOtherLatch p → is_tagged (content_at c p) ≡ false
 

@@ -3,7 +3,6 @@ pub mod OneWrite
 pub mod Denoted
 pub mod Writes
 pub mod WritesKeepStates
-pub mod Weaken
 pub mod KnownNumbers
 -- An instruction that goes on to the next word does what its abstract effect says, form by form.
 pub mod Flows

@@ -1,6 +1,5 @@
 -- The address of a port is that of no word of a place, so an access from x0 on reaches the port.
-use Rattle.std.proofs.Common.{◌≡◌, ℕ, ◌+◌, ◌*◌, ◌-◌, ◌/◌, ◌%◌, ◌<◌, ◌≤◌, Bool, true, false, ◌&&◌, ◌==◌, nat_le, nat_lt, if◌then◌else◌, ℤ, Some, None, refl, sym, ap, subst, ◌∙◌, arith, eqb-true, le-ltb, ne_eqb}
-use Rattle.std.proofs.lemmas.Bool.{and_left, and_right, cond-false}
+use Rattle.std.proofs.Common.{◌≡◌, ℕ, ◌%◌, ◌<◌, ◌≤◌, Bool, true, false, ◌==◌, if◌then◌else◌, ℤ, Some, None, refl, sym, ap, subst, ◌∙◌, arith, eqb-true, ne_eqb}
 use Rattle.isa_model.specs.declared.latch.Latch.TheVariants.{Mem}
 use Rattle.isa_model.specs.Bits.{word_address}
 use Rattle.isa_model.specs.Effect.{address}

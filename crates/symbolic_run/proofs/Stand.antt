@@ -77,9 +77,9 @@ words-before (word ∷ words) rest (first ∷ instrs) e =
     ap (λ o. o ∷ map instr_of (take (length instrs) (words ++ rest))) t.0 ∙ ap (λ os. Some first ∷ os) (words-before words rest instrs t.1)
 
 -- Their instructions stand among other code.
-pub words-stand : (front words rest : List ℕ) (instrs : List Instr) → length front ≤ 1000 → length instrs ≤ 1000
+pub stand-among : (front words rest : List ℕ) (instrs : List Instr) → length front ≤ 1000 → length instrs ≤ 1000
     → map instr_of words ≡ map (λ x. Some x) instrs → StandAt (front ++ (words ++ rest)) (kernel_address + 4 * length front) instrs
-words-stand front words rest instrs low few decode =
+stand-among front words rest instrs low few decode =
     let P : List ℕ → Type 0 = λ later. AreWordsOf later instrs in
     stand-at (front ++ (words ++ rest)) (length front) instrs low few
     (subst P (sym (drop-append_seam front (words ++ rest))) (words-before words rest instrs decode))

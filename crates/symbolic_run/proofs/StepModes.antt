@@ -1,5 +1,5 @@
 -- A step of a path keeps the mode.
-use Rattle.std.proofs.Common.{◌≡◌, ℕ, Bool, Option, Some, refl, arith}
+use Rattle.std.proofs.Common.{◌≡◌, ℕ, Bool, Some, refl, arith}
 use Rattle.std.proofs.lemmas.Grind.{common_steps}
 use Rattle.isa_model.specs.declared.instr.Instr.{Instr}
 use Rattle.hart_model.specs.Csrs.{CsrFile, with_public_csr}
