@@ -17,15 +17,15 @@ use Rattle.core_model.specs.declared.event.Event.TheVariants.{Go, Tick}
 use Rattle.core_model.specs.declared.loaded.Loaded.{Loaded}
 use Rattle.core_model.specs.declared.plan.Plan.{Plan}
 use Rattle.core_model.specs.AlikeHarts.{AreContextsAlike, AreHeldAlike, AreHartsAlike}
-use Rattle.core_model.specs.Board.{take_from}
+use Rattle.core_model.specs.Board.{Front, front_of, take_from}
 use Rattle.core_model.specs.Core.{CoreState, CoreAndAction, after_take, after_give_done, after_call, after_step, after_go, event_result}
-use Rattle.core_model.specs.LowEquivalence.{ArePairwise}
 use Rattle.core_model.specs.Orders.{HartPace, held_count, count_on, is_user, is_tick_due, events_of_step, pace_after}
 use Rattle.core_model.specs.Plans.{quantum_after}
 use Rattle.core_invariant.proofs.Items.{get-set_same}
 use Rattle.core_invariant.specs.KernelStates.{KernelParts}
 use Rattle.core_invariant.specs.Invariant.{IsCoreKept}
 use Rattle.noninterference.specs.AlikeCores.{AreOnWayTogether, AreStepsTogether, BothHarts}
+use Rattle.noninterference.proofs.AlikeBoards.{AreNextAlike, fronts-alike}
 use Rattle.noninterference.proofs.AlikeCores.{AreCoresTogether, one-short}
 use Rattle.noninterference.proofs.UserCsrs.{csrs-agree}
 
@@ -76,20 +76,20 @@ module _ (Together : ℕ → HartState → HartState → Type 0) (k : KernelPart
     on : AreOnWayTogether Together loaded.tasks other.tasks k hart h g
     on = record { way = kept.harts hart h is; other = kept_too.harts hart g is_too; both = together.harts hart h g is is_too }
 
-    take-same : (begun started : List CellWrite) (rd next to then_at : ℕ) (ready more : List ContextState) → ArePairwise AreContextsAlike ready more
-        → AreActionsSame hart (after_take c hart h begun rd next (take_from c.board hart ready))
-        (after_take d hart g started to then_at (take_from d.board hart more))
-    take-same begun started rd next to then_at [] [] pairs = record { action = refl; pace = λ p. refl }
-    take-same begun started rd next to then_at [] (y ∷ ys) pairs = absurd pairs
-    take-same begun started rd next to then_at (x ∷ xs) [] pairs = absurd pairs
-    take-same begun started rd next to then_at (x ∷ xs) (y ∷ ys) pairs =
-        let one = get-set_same c.harts hart h (answer_take begun rd next (Some x) h).hart is in
-        let two = get-set_same d.harts hart g (answer_take started to then_at (Some y) g).hart is_too in
-        let count : count_on (slice_get (set c.harts hart (answer_take begun rd next (Some x) h).hart) hart)
-        ≡ count_on (slice_get (set d.harts hart (answer_take started to then_at (Some y) g).hart) hart) =
-        ap count_on one ∙ pairs.0.body.count ∙ sym (ap count_on two) in
+    take-same : (begun started : List CellWrite) (rd next to then_at : ℕ) (front other_front : Option Front) → AreNextAlike front other_front
+        → AreActionsSame hart (after_take c hart h begun rd next (take_from c.board hart front))
+        (after_take d hart g started to then_at (take_from d.board hart other_front))
+    take-same begun started rd next to then_at None None alike = record { action = refl; pace = λ p. refl }
+    take-same begun started rd next to then_at None (Some y) alike = absurd alike
+    take-same begun started rd next to then_at (Some x) None alike = absurd alike
+    take-same begun started rd next to then_at (Some x) (Some y) alike =
+        let one = get-set_same c.harts hart h (answer_take begun rd next (Some x.context) h).hart is in
+        let two = get-set_same d.harts hart g (answer_take started to then_at (Some y.context) g).hart is_too in
+        let count : count_on (slice_get (set c.harts hart (answer_take begun rd next (Some x.context) h).hart) hart)
+        ≡ count_on (slice_get (set d.harts hart (answer_take started to then_at (Some y.context) g).hart) hart) =
+        ap count_on one ∙ alike.context.body.count ∙ sym (ap count_on two) in
         record {
-          action = ap (λ t. Some (actions.Took t)) pairs.0.body.task_no;
+          action = ap (λ t. Some (actions.Took t)) alike.context.body.task_no;
           pace = λ p. ap (λ n. record { takes = p.takes + 1; taken_at = n; has_stopped = false }) count;
         }
 
@@ -119,7 +119,10 @@ module _ (Together : ℕ → HartState → HartState → Type 0) (k : KernelPart
 
     call-same : (call : QueueCall) (begun started : List CellWrite) (rd next : ℕ) → AreHeldAlike h.held g.held
         → AreActionsSame hart (after_call c hart h call begun rd next h.held) (after_call d hart g call started rd next g.held)
-    call-same Take begun started rd next held = take-same begun started rd next rd next c.board.ready d.board.ready together.board.ready
+    call-same Take begun started rd next held =
+        take-same begun started rd next rd next (front_of c.board.ready.first c.board.ready.second)
+        (front_of d.board.ready.first d.board.ready.second)
+        (fronts-alike c.board.ready.first c.board.ready.second d.board.ready.first d.board.ready.second together.board.first together.board.second)
     call-same GiveReady begun started rd next held = ready-same begun started rd next rd next h.held g.held held
     call-same GiveDone begun started rd next held = done-same begun started rd next rd next h.held g.held held
 

@@ -1,11 +1,10 @@
 -- Each entry of a legal order keeps the coarse run and lowers its potential.
-use Rattle.std.proofs.Common.{◌≡◌, ◌≢◌, ℕ, ◌+◌, ◌≤◌, inl, inr, Bool, true, false, List, [], ◌∷◌, ◌++◌, length, length-set, set, slice_get, Option, Some, None, refl, sym, ap, ◌∙◌, subst, arith, if◌then◌else◌}
+use Rattle.std.proofs.Common.{◌≡◌, ℕ, ◌+◌, ◌≤◌, inl, inr, Bool, true, false, List, [], ◌∷◌, length, length-set, set, slice_get, Option, Some, None, refl, sym, ap, ◌∙◌, subst, arith, if◌then◌else◌}
 use Rattle.std.specs.Prelude.{All}
 use Rattle.std.specs.List.{sum_by}
-use Rattle.std.proofs.lemmas.Bool.{cases_eq}
 use Rattle.std.proofs.lemmas.List.{set-set}
 use Rattle.std.proofs.lemmas.List.Elements.{All-head}
-use Rattle.std.proofs.lemmas.List.Sums.{sum_by-cons, sum_by_push}
+use Rattle.std.proofs.lemmas.List.Sums.{sum_by-cons}
 use Rattle.isa_model.specs.declared.task.Task.{Task}
 use Rattle.isa_model.specs.declared.ends.End.{End}
 use Rattle.hart_model.specs.declared.calls.QueueCall.{QueueCall}
@@ -19,11 +18,10 @@ use Rattle.hart_model.specs.HartStep.{hart_step, answer_take, answer_give}
 use Rattle.core_model.specs.declared.action.Action.TheVariants as actions
 use Rattle.core_model.specs.declared.plan.Plan.{Plan}
 use Rattle.core_model.specs.declared.loaded.Loaded.{Loaded}
-use Rattle.core_model.specs.Board.{BoardState, take_from, give_done_of, with_next_admitted}
+use Rattle.core_model.specs.Board.{BoardState, Front, all_ready, front_of, with_ready, take_from, give_done_of, with_next_admitted}
 use Rattle.core_model.specs.Core.{CoreState, CoreAndAction, after_take, after_give_ready, after_give_done, after_call, after_step, with_action_of, with_hart}
-use Rattle.core_model.specs.Routines.{IsReadyContext}
 use Rattle.core_model.specs.Orders.{HartPace, CoarseState, StepsToAction, pace_after, count_on, after_entry, IsLegalEntry, IsLegalFrom}
-use Rattle.core_invariant.proofs.Items.{get-set_same, get-set_other}
+use Rattle.core_invariant.proofs.Items.{get-set_same}
 use Rattle.core_invariant.specs.KernelStates.{KernelParts}
 use Rattle.core_invariant.specs.Invariant.{IsCoreKept, IsWaitingTask}
 use Rattle.core_invariant.specs.OneHart.{EachHart}
@@ -33,8 +31,10 @@ use Rattle.order_laws.specs.CoarseInvariant.{IsFree, IsHolding, IsBetweenActions
 use Rattle.order_laws.specs.EachTurn.{pace_with, Takes, Gives, EachTurn}
 use Rattle.order_laws.specs.Potential.{waiting_potential, ready_potential, held_potential, timer_potential, hart_potential, harts_potential, board_potential, potential_of}
 use Rattle.order_laws.proofs.Potentials.{harts-set, taken-pays, take-timer, give-timer}
+use Rattle.order_laws.proofs.ReadySums.{sum-ready, sum-front, front-ready}
 use Rattle.order_laws.proofs.Shares.{entry-kept}
-use Rattle.order_laws.proofs.Entries.{WantsNow, GoesOn, entry-goes-on, IsTurn, Found, Returned, ItsAction, its-action, by_steps, entry-is, wants}
+use Rattle.order_laws.proofs.EachPaced.{AllStand, all-set}
+use Rattle.order_laws.proofs.Entries.{WantsNow, GoesOn, entry-goes-on, ItsAction, IsTurn, Found, Returned, ItsTurn, its-turn, by_steps, entry-is, wants}
 
 module _ (k : KernelParts) (loaded : Loaded) where
   -- a coarse run that is kept, with a potential that is lower than this
@@ -67,32 +67,12 @@ module _ (k : KernelParts) (loaded : Loaded) where
     kept-after c q g kept harts here = record {
       core = kept;
       paces = length-set co.paces hart q ∙ between.paces;
-      harts = λ number p x pace_is hart_is goes_on. kept-at number p x pace_is
-          (subst (λ (hs : List HartState). slice_get hs number ≡ Some x) harts hart_is) goes_on;
+      harts = subst (AllStand Stands (set co.paces hart q)) (sym harts)
+          (all-set Stands co.paces co.core.harts hart pace q h g is_pace is_hart between.harts here);
     }
       where
-        get-other : {X : Type 0} (xs : List X) (i j : ℕ) (x y : X) → j ≢ i → slice_get (set xs i x) j ≡ Some y → slice_get xs j ≡ Some y
-        get-other xs i j x y ne e = sym (get-set_other xs i j x ne) ∙ e
-
-        kept-at : (number : ℕ) (p : HartPace) (x : HartState) → slice_get (set co.paces hart q) number ≡ Some p
-            → slice_get (set co.core.harts hart g) number ≡ Some x → p.has_stopped ≡ false → IsBetweenActions loaded.tasks k number p x
-        kept-at number p x pace_is hart_is goes_on =
-            elim (cases_eq number hart) [
-              | inl same ↦ at-hart same
-              | inr other ↦ between.harts number p x (get-other co.paces hart number q p other pace_is)
-                  (get-other co.core.harts hart number g x other hart_is) goes_on
-            ]
-          where
-            at-hart : number ≡ hart → IsBetweenActions loaded.tasks k number p x
-            at-hart same =
-                let at_pace : slice_get (set co.paces hart q) hart ≡ Some p = ap (slice_get (set co.paces hart q)) (sym same) ∙ pace_is in
-                let at_hart : slice_get (set co.core.harts hart g) hart ≡ Some x = ap (slice_get (set co.core.harts hart g)) (sym same) ∙ hart_is in
-                let is_q : q ≡ p = cc (sym (get-set_same co.paces hart pace q is_pace) ∙ at_pace) in
-                let is_g : g ≡ x = cc (sym (get-set_same co.core.harts hart h g is_hart) ∙ at_hart) in
-                let P : ℕ → Type 0 = λ n. IsBetweenActions loaded.tasks k n p x in
-                let Q : HartPace → Type 0 = λ r. IsBetweenActions loaded.tasks k hart r x in
-                let R : HartState → Type 0 = λ y. IsBetweenActions loaded.tasks k hart q y in
-                subst P (sym same) (subst Q is_q (subst R is_g (here (ap (λ (r : HartPace). r.has_stopped) is_q ∙ goes_on))))
+        Stands : ℕ → HartPace → HartState → Type 0
+        Stands number p x = IsBetweenActions loaded.tasks k number p x
 
     -- an empty take
     stopped-pays : (g : HartState) → h.held ≡ None → pace.has_stopped ≡ false → g.held ≡ None → timer_potential g ≤ timer_potential h
@@ -105,27 +85,29 @@ module _ (k : KernelParts) (loaded : Loaded) where
         omega (arith, before, after, timer)
 
     -- a take that gets a context
-    got-pays : (g : HartState) (c : ContextState) (rest : List ContextState) → h.held ≡ None → pace.has_stopped ≡ false → g.held ≡ Some c
-        → co.core.board.ready ≡ c ∷ rest → timer_potential g ≤ timer_potential h
-        → hart_potential plan (pace_with pace c) g + (sum_by waiting_potential co.core.board.waiting + sum_by ready_potential rest) + 1
+    got-pays : (g : HartState) (f : Front) → h.held ≡ None → pace.has_stopped ≡ false → g.held ≡ Some f.context
+        → front_of co.core.board.ready.first co.core.board.ready.second ≡ Some f → timer_potential g ≤ timer_potential h
+        → hart_potential plan (pace_with pace f.context) g
+        + (sum_by waiting_potential co.core.board.waiting + sum_by ready_potential (all_ready f.left)) + 1
         ≤ hart_potential plan pace h + board_potential co.core.board
-    got-pays g c rest free goes_on some ready timer =
+    got-pays g f free goes_on some ready timer =
         let before : held_potential plan pace h.held ≡ 1 = ap (held_potential plan pace) free ∙ ap (λ (b : Bool). if b then 0 else 1) goes_on in
-        let after : held_potential plan (pace_with pace c) g.held ≡ held_potential plan (pace_with pace c) (Some c) =
-        ap (held_potential plan (pace_with pace c)) some in
-        let pays = taken-pays plan pace c in
-        let sum : sum_by ready_potential co.core.board.ready ≡ ready_potential c + sum_by ready_potential rest =
-        ap (sum_by ready_potential) ready ∙ sum_by-cons ready_potential c rest in
+        let after : held_potential plan (pace_with pace f.context) g.held ≡ held_potential plan (pace_with pace f.context) (Some f.context) =
+        ap (held_potential plan (pace_with pace f.context)) some in
+        let pays = taken-pays plan pace f.context in
+        let sum = sum-front ready_potential co.core.board.ready f ready in
         omega (arith, before, after, pays, sum, timer)
 
     -- a give of a ready context
     ready-pays : (g : HartState) (c : ContextState) → pace.has_stopped ≡ false → g.held ≡ None
         → ready_potential c + timer_potential g + 2 ≤ held_potential plan pace h.held + timer_potential h
-        → hart_potential plan pace g + (sum_by waiting_potential co.core.board.waiting + sum_by ready_potential (co.core.board.ready ++ c ∷ [])) + 1
+        → hart_potential plan pace g
+        + (sum_by waiting_potential co.core.board.waiting
+        + sum_by ready_potential (all_ready (with_ready co.core.board.bands co.core.board.ready c))) + 1
         ≤ hart_potential plan pace h + board_potential co.core.board
     ready-pays g c goes_on none pays =
         let after : held_potential plan pace g.held ≡ 1 = ap (held_potential plan pace) none ∙ ap (λ (b : Bool). if b then 0 else 1) goes_on in
-        let sum = sum_by_push ready_potential co.core.board.ready c in
+        let sum = sum-ready ready_potential co.core.board.bands co.core.board.ready c in
         omega (arith, after, sum, pays)
 
     -- a give of an ended one: a waiting task that is admitted costs as much as before
@@ -136,7 +118,7 @@ module _ (k : KernelParts) (loaded : Loaded) where
     admitted b slot words (first ∷ rest) same fresh =
         let task = All-head (IsWaitingTask loaded.tasks) first rest fresh in
         let none : first.count ≡ 0 = ap (λ (x : BodyState). x.count) task.0.is_fresh in
-        let push = sum_by_push ready_potential b.ready (admit_of first slot words) in
+        let push = sum-ready ready_potential b.bands b.ready (admit_of first slot words) in
         let cons : sum_by waiting_potential b.waiting ≡ waiting_potential first + sum_by waiting_potential rest =
         ap (sum_by waiting_potential) same ∙ sum_by-cons waiting_potential first rest in
         omega (arith, none, push, cons)
@@ -168,14 +150,15 @@ module _ (k : KernelParts) (loaded : Loaded) where
       same-board : c.board ≡ co.core.board
       same-board = ap (λ (x : CoreState). x.board) same_core
 
-      take-paid : (ready : List ContextState) → c.board.ready ≡ ready → h.held ≡ None → timer_potential a.hart ≤ timer_potential h
-          → ((x : ContextState) (rest : List ContextState) → ready ≡ x ∷ rest
-          → IsHolding loaded.tasks k hart (pace_with pace x) (answer_take begun rd next (Some x) a.hart).hart)
-          → IsCoreKept k loaded (after_take c hart a.hart begun rd next (take_from c.board hart ready)).core
-          → IsLower (potential_of loaded.plans co) (Entry (after_take c hart a.hart begun rd next (take_from c.board hart ready)))
-      take-paid [] is free timer holds kept =
+      take-paid : (front : Option Front) → front_of c.board.ready.first c.board.ready.second ≡ front → h.held ≡ None
+          → timer_potential a.hart ≤ timer_potential h
+          → ((f : Front) → front ≡ Some f
+          → IsHolding loaded.tasks k hart (pace_with pace f.context) (answer_take begun rd next (Some f.context) a.hart).hart)
+          → IsCoreKept k loaded (after_take c hart a.hart begun rd next (take_from c.board hart front)).core
+          → IsLower (potential_of loaded.plans co) (Entry (after_take c hart a.hart begun rd next (take_from c.board hart front)))
+      take-paid None is free timer holds kept =
           let g = (answer_take begun rd next None a.hart).hart in
-          let r = after_take c hart a.hart begun rd next (take_from c.board hart []) in
+          let r = after_take c hart a.hart begun rd next (take_from c.board hart None) in
           let q : HartPace = record pace { has_stopped = true } in
           let board : board_potential r.core.board ≡ board_potential co.core.board = ap board_potential same-board in
           let left = take-timer begun rd next None a.hart in
@@ -184,19 +167,20 @@ module _ (k : KernelParts) (loaded : Loaded) where
             kept = kept-after r.core q g kept (entry-harts g) (λ e. absurd (cc e));
             pays = cost-less r.core q g (entry-harts g) (omega (arith, board, less));
           }
-      take-paid (x ∷ rest) is free timer holds kept =
-          let g = (answer_take begun rd next (Some x) a.hart).hart in
-          let r = after_take c hart a.hart begun rd next (take_from c.board hart (x ∷ rest)) in
-          let q : HartPace = pace_with pace x in
+      take-paid (Some f) is free timer holds kept =
+          let g = (answer_take begun rd next (Some f.context) a.hart).hart in
+          let r = after_take c hart a.hart begun rd next (take_from c.board hart (Some f)) in
+          let q : HartPace = pace_with pace f.context in
           let pace_is : pace_after pace (count_on (slice_get r.core.harts hart)) r.action ≡ q =
           ap (λ (o : Option HartState). pace_after pace (count_on o) r.action) (at-hart g) in
           let waiting : sum_by waiting_potential r.core.board.waiting ≡ sum_by waiting_potential co.core.board.waiting =
           ap (λ (b : BoardState). sum_by waiting_potential b.waiting) same-board in
-          let left = take-timer begun rd next (Some x) a.hart in
-          let less = got-pays g x rest free goes_on refl (ap (λ (b : BoardState). b.ready) (sym same-board) ∙ is) (omega (arith, left, timer)) in
+          let left = take-timer begun rd next (Some f.context) a.hart in
+          let less = got-pays g f free goes_on refl (ap (λ (b : BoardState). front_of b.ready.first b.ready.second) (sym same-board) ∙ is)
+          (omega (arith, left, timer)) in
           let P : HartPace → Type 0 = λ p. IsLower (potential_of loaded.plans co) (record { core = r.core; paces = set co.paces hart p }) in
           subst P (sym pace_is) (record {
-            kept = kept-after r.core q g kept (entry-harts g) (λ e. inr (holds x rest refl));
+            kept = kept-after r.core q g kept (entry-harts g) (λ e. inr (holds f refl));
             pays = cost-less r.core q g (entry-harts g) (omega (arith, waiting, less));
           })
 
@@ -209,8 +193,9 @@ module _ (k : KernelParts) (loaded : Loaded) where
           let r = after_give_ready c hart a.hart begun next x in
           let waiting : sum_by waiting_potential r.core.board.waiting ≡ sum_by waiting_potential co.core.board.waiting =
           ap (λ (b : BoardState). sum_by waiting_potential b.waiting) same-board in
-          let ready : sum_by ready_potential r.core.board.ready ≡ sum_by ready_potential (co.core.board.ready ++ x ∷ []) =
-          ap (λ (b : BoardState). sum_by ready_potential (b.ready ++ x ∷ [])) same-board in
+          let ready : sum_by ready_potential (all_ready r.core.board.ready)
+          ≡ sum_by ready_potential (all_ready (with_ready co.core.board.bands co.core.board.ready x)) =
+          ap (λ (b : BoardState). sum_by ready_potential (all_ready (with_ready b.bands b.ready x))) same-board in
           let left = give-timer begun next a.hart in
           let less = ready-pays g x goes_on refl (omega (arith, left, pays)) in
           record {
@@ -246,11 +231,10 @@ module _ (k : KernelParts) (loaded : Loaded) where
           → IsCoreKept k loaded (Stepped (Wants Take begun rd next)).core
           → IsLower (potential_of loaded.plans co) (Entry (Stepped (Wants Take begun rd next)))
       paid-take wants free takes kept =
-          take-paid c.board.ready refl free takes.timer
-          (λ x rest is. takes.then_holds begun rd next x wants (ready-one x rest (sym (ap (λ (b : BoardState). b.ready) same-board) ∙ is))) kept
-        where
-          ready-one : (x : ContextState) (rest : List ContextState) → co.core.board.ready ≡ x ∷ rest → IsReadyContext loaded.tasks x
-          ready-one x rest is = All-head (IsReadyContext loaded.tasks) x rest (subst (All (IsReadyContext loaded.tasks)) is between.core.ready)
+          take-paid (front_of c.board.ready.first c.board.ready.second) refl free takes.timer
+          (λ f is. takes.then_holds begun rd next f.context wants
+          (front-ready loaded.tasks co.core.board.ready between.core.ready f
+          (sym (ap (λ (b : BoardState). front_of b.ready.first b.ready.second) same-board) ∙ is))) kept
 
       paid-ready : (x : ContextState) → a.hart.held ≡ Some x
           → ready_potential x + timer_potential a.hart + 2 ≤ held_potential plan pace h.held + timer_potential h
@@ -330,28 +314,31 @@ module _ (k : KernelParts) (loaded : Loaded) (one : EachHart loaded.tasks k) (pl
   -- A legal entry keeps a coarse run, and lowers its potential.
   pub entry-lowers : (co : CoarseState) → IsCoarseKept k loaded co → (hart : ℕ) → IsLegalEntry co hart
       → IsLower k loaded (potential_of loaded.plans co) (after_entry k.code.words loaded.plans co hart)
-  entry-lowers co kept hart legal = subst Lower (sym same) (by-turn a.turn)
+  entry-lowers co kept hart legal = subst Lower (sym same) (by-turn t.turn)
     where
-      g : GoesOn k loaded co hart
-      g = entry-goes-on k loaded plan_each co kept hart legal
+      g : GoesOn loaded co hart
+      g = entry-goes-on k loaded plan_each co kept.core kept.paces hart legal
 
-      a : ItsAction k loaded one turns co kept hart g
-      a = its-action k loaded one turns co kept hart g
+      t : ItsTurn k loaded turns co kept hart g
+      t = its-turn k loaded turns co kept hart g
+
+      a : ItsAction k loaded co hart g
+      a = t.action
 
       Lower : CoarseState → Type 0
       Lower x = IsLower k loaded (potential_of loaded.plans co) x
 
-      same : after_entry k.code.words loaded.plans co hart ≡ by_steps k loaded one turns co kept hart g a (acted_steps k.code.words co.core hart a.at)
-      same = entry-is k loaded one turns co kept hart g a
+      same : after_entry k.code.words loaded.plans co hart ≡ by_steps k loaded one co kept.core hart g a (acted_steps k.code.words co.core hart a.at)
+      same = entry-is k loaded one co kept.core hart g a
 
       core_kept : IsCoreKept k loaded (acted k.code.words co.core hart a.at).core
       core_kept = subst (λ (x : CoarseState). IsCoreKept k loaded x.core) same (entry-kept k loaded one co hart kept.core)
 
       w : WantsNow k.code.words a.at.call a.at.hart
-      w = wants k loaded one turns co kept hart g a
+      w = wants k loaded one co kept.core hart g a
 
-      by-turn : IsTurn k loaded one turns co kept hart g a.at.call a.at.hart
-          → Lower (by_steps k loaded one turns co kept hart g a (acted_steps k.code.words co.core hart a.at))
+      by-turn : IsTurn k loaded turns co kept hart g a.at.call a.at.hart
+          → Lower (by_steps k loaded one co kept.core hart g a (acted_steps k.code.words co.core hart a.at))
       by-turn (Found free takes) =
           found-paid k loaded co kept hart g.plan g.pace g.state g.is_plan g.is_pace g.is_hart g.goes_on a.at
           (free-holds loaded.tasks k hart g.state free) takes core_kept w

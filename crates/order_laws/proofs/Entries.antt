@@ -20,7 +20,7 @@ use Rattle.core_invariant.specs.Invariant.{IsCoreKept}
 use Rattle.core_invariant.specs.OneHart.{EachHart}
 use Rattle.order_laws.specs.CoarseRuns.{HartShare, IsShareOf}
 use Rattle.order_laws.specs.OwnSteps.{AtAction, after_own, own_by, own_steps, moved_to, acted, acted_steps}
-use Rattle.order_laws.specs.CoarseInvariant.{IsFree, IsHolding, IsBetweenActions, IsCoarseKept}
+use Rattle.order_laws.specs.CoarseInvariant.{IsFree, IsHolding, IsCoarseKept}
 use Rattle.order_laws.specs.EachTurn.{turn_steps, Takes, Gives, EachTurn}
 use Rattle.order_laws.proofs.OwnSteps.{own-in-core, own-kept, made}
 use Rattle.order_laws.proofs.Reach.{own-more}
@@ -69,7 +69,7 @@ item-at (x ∷ xs) zero low = (x, refl)
 item-at (x ∷ xs) (suc i) low = item-at xs i (omega (arith, low))
 
 -- A hart of a coarse run that goes on, with its plan and its pace.
-pub record GoesOn (k : KernelParts) (loaded : Loaded) (co : CoarseState) (hart : ℕ) : Type 0 where
+pub record GoesOn (loaded : Loaded) (co : CoarseState) (hart : ℕ) : Type 0 where
   pub plan : Plan
   pub pace : HartPace
   pub state : HartState
@@ -77,15 +77,14 @@ pub record GoesOn (k : KernelParts) (loaded : Loaded) (co : CoarseState) (hart :
   pub is_pace : slice_get co.paces hart ≡ Some pace
   pub is_hart : slice_get co.core.harts hart ≡ Some state
   pub goes_on : pace.has_stopped ≡ false
-  pub between : IsBetweenActions loaded.tasks k hart pace state
 
 -- The hart of a legal entry does, and so does one whose share has not found nothing.
-module _ (k : KernelParts) (loaded : Loaded) (plan_each : length loaded.plans ≡ loaded.harts) (co : CoarseState) (kept : IsCoarseKept k loaded co)
-    (hart : ℕ) where
-  pub share-goes-on : (s : HartShare) → IsShareOf co hart s → s.pace.has_stopped ≡ false → GoesOn k loaded co hart
+module _ (k : KernelParts) (loaded : Loaded) (plan_each : length loaded.plans ≡ loaded.harts) (co : CoarseState)
+    (kept : IsCoreKept k loaded co.core) (paces : length co.paces ≡ loaded.harts) (hart : ℕ) where
+  pub share-goes-on : (s : HartShare) → IsShareOf co hart s → s.pace.has_stopped ≡ false → GoesOn loaded co hart
   share-goes-on s is goes_on =
       let low = slice_get_within co.core.harts hart s.hart is.hart in
-      let count = kept.core.hart_count in
+      let count = kept.hart_count in
       let plan = item-at loaded.plans hart (omega (arith, low, count, plan_each)) in
       record {
         plan = plan.0;
@@ -95,14 +94,12 @@ module _ (k : KernelParts) (loaded : Loaded) (plan_each : length loaded.plans �
         is_pace = is.pace;
         is_hart = is.hart;
         goes_on = goes_on;
-        between = kept.harts hart s.pace s.hart is.pace is.hart goes_on;
       }
 
-  pub entry-goes-on : IsLegalEntry co hart → GoesOn k loaded co hart
+  pub entry-goes-on : IsLegalEntry co hart → GoesOn loaded co hart
   entry-goes-on legal =
       let low = legal.exists in
-      let count = kept.core.hart_count in
-      let paces = kept.paces in
+      let count = kept.hart_count in
       let plan = item-at loaded.plans hart (omega (arith, low, count, plan_each)) in
       let pace = get_or co.paces hart boot_pace in
       let is_pace = slice_get-get_or co.paces hart boot_pace (omega (arith, low, count, paces)) in
@@ -115,32 +112,39 @@ module _ (k : KernelParts) (loaded : Loaded) (plan_each : length loaded.plans �
         is_pace = is_pace;
         is_hart = state.1;
         goes_on = legal.goes_on;
-        between = kept.harts hart pace state.0 is_pace state.1 legal.goes_on;
       }
 
-module _ (k : KernelParts) (loaded : Loaded) (one : EachHart loaded.tasks k)
+-- It comes to an action by its own steps.
+module _ (k : KernelParts) (loaded : Loaded) (co : CoarseState) (hart : ℕ) (g : GoesOn loaded co hart) where
+  pub record ItsAction : Type 0 where
+    pub at : AtAction
+    pub own : own_steps k.code.words g.plan g.pace hart turn_steps g.state ≡ Some at
+
+-- So does one of a coarse run that is kept, by what it held before.
+module _ (k : KernelParts) (loaded : Loaded)
     (turns : (number : ℕ) (plan : Plan) → slice_get loaded.plans number ≡ Some plan → EachTurn loaded.tasks k plan number)
-    (co : CoarseState) (kept : IsCoarseKept k loaded co) (hart : ℕ) (g : GoesOn k loaded co hart) where
-  -- what a hart held before, and what it comes to
+    (co : CoarseState) (kept : IsCoarseKept k loaded co) (hart : ℕ) (g : GoesOn loaded co hart) where
   pub data IsTurn (call : QueueCall) (h : HartState) : Type 0 where
     Found : IsFree loaded.tasks k hart g.state → Takes loaded.tasks k g.plan hart g.pace g.state call h → IsTurn call h
     Returned : IsHolding loaded.tasks k hart g.pace g.state → Gives loaded.tasks k g.plan hart g.pace g.state call h → IsTurn call h
 
-  -- It comes to an action by its own steps.
-  pub record ItsAction : Type 0 where
-    pub at : AtAction
-    pub own : own_steps k.code.words g.plan g.pace hart turn_steps g.state ≡ Some at
-    pub turn : IsTurn at.call at.hart
+  pub record ItsTurn : Type 0 where
+    pub action : ItsAction k loaded co hart g
+    pub turn : IsTurn action.at.call action.at.hart
 
-  pub its-action : ItsAction
-  its-action =
+  pub its-turn : ItsTurn
+  its-turn =
       let turn = turns hart g.plan g.is_plan in
-      elim g.between [
-        | inl free ↦ (let r = turn.finds g.pace g.state free in record { at = r.action; own = r.own; turn = Found free r.there })
-        | inr holding ↦ (let r = turn.returns g.pace g.state holding in record { at = r.action; own = r.own; turn = Returned holding r.there })
+      elim (kept.harts hart g.pace g.state g.is_pace g.is_hart g.goes_on) [
+        | inl free ↦ (let r = turn.finds g.pace g.state free in
+            record { action = record { at = r.action; own = r.own }; turn = Found free r.there })
+        | inr holding ↦ (let r = turn.returns g.pace g.state holding in
+            record { action = record { at = r.action; own = r.own }; turn = Returned holding r.there })
       ]
 
-  module _ (a : ItsAction) where
+module _ (k : KernelParts) (loaded : Loaded) (one : EachHart loaded.tasks k) (co : CoarseState) (kept : IsCoreKept k loaded co.core) (hart : ℕ)
+    (g : GoesOn loaded co hart) where
+  module _ (a : ItsAction k loaded co hart g) where
     own-max : own_steps k.code.words g.plan g.pace hart max_steps g.state ≡ Some a.at
     own-max = own-more k.code.words g.plan g.pace hart 100 turn_steps g.state a.at a.own
 
@@ -159,7 +163,7 @@ module _ (k : KernelParts) (loaded : Loaded) (one : EachHart loaded.tasks k)
     entry-steps =
         ap (λ (x : Plan). steps_to_action k.code.words x (get_or co.paces hart boot_pace) hart max_steps co.core) plan-is
         ∙ ap (λ (p : HartPace). steps_to_action k.code.words g.plan p hart max_steps co.core) pace-is
-        ∙ own-in-core k loaded one hart g.plan g.pace max_steps co.core g.state a.at kept.core g.is_hart own-max
+        ∙ own-in-core k loaded one hart g.plan g.pace max_steps co.core g.state a.at kept g.is_hart own-max
 
     -- and they leave this.
     abbrev pub by_steps : StepsToAction → CoarseState
@@ -180,7 +184,7 @@ module _ (k : KernelParts) (loaded : Loaded) (one : EachHart loaded.tasks k)
     at_action = moved_to co.core hart a.at.hart a.at.probes
 
     pub action-kept : IsCoreKept k loaded at_action
-    action-kept = own-kept k loaded one hart g.plan g.pace turn_steps co.core g.state a.at kept.core g.is_hart a.own
+    action-kept = own-kept k loaded one hart g.plan g.pace turn_steps co.core g.state a.at kept g.is_hart a.own
 
     pub at-hart : slice_get at_action.harts hart ≡ Some a.at.hart
     at-hart = get-set_same co.core.harts hart g.state a.at.hart g.is_hart

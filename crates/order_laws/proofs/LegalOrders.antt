@@ -14,11 +14,12 @@ use Rattle.core_model.specs.Board.{contexts_from}
 use Rattle.core_model.specs.Core.{CoreState, CoreAndAction, bodies_from, harts_from, boot_core}
 use Rattle.core_model.specs.KernelWords.{KernelCodeState}
 use Rattle.core_model.specs.Loaded.{IsLoaded, IsWithinLimits, IsPlanWithinLimits, action_bound_of}
-use Rattle.core_model.specs.Orders.{CoarseState, boot_pace, boot_coarse, plan_at, max_steps, after_entry, IsLegalFrom}
+use Rattle.core_model.specs.Orders.{CoarseState, boot_pace, boot_coarse, plan_at, max_steps, after_entry, IsLegalEntry, IsLegalFrom}
 use Rattle.core_model.proofs.Lists.{some-is}
 use Rattle.symbolic_run.proofs.StepsTaken.{steps-taken}
 use Rattle.symbolic_run.proofs.Paths.{paths-lead}
 use Rattle.core_invariant.specs.KernelStates.{KernelParts, IsKernel, middle_at, take_index}
+use Rattle.core_invariant.specs.Invariant.{IsCoreKept}
 use Rattle.core_invariant.specs.OneHart.{EachHart}
 use Rattle.core_invariant.proofs.AtStart.{boot-empty}
 use Rattle.core_invariant.proofs.Boot.{boot-kept}
@@ -32,11 +33,12 @@ use Rattle.order_laws.specs.Potential.{waiting_potential, ready_potential, hart_
 use Rattle.order_laws.specs.Laws.{CoarseRunsAreKept, Acts, EachEntryActs, EntriesAreFew, BoardsTellOrders, EntriesLowerThePotential, LegalOrdersAreBounded, ComesToAction, HartsComeToActions}
 use Rattle.order_laws.proofs.Named.{step-named}
 use Rattle.order_laws.proofs.OneEvent.{entry_of, step-changes}
+use Rattle.order_laws.proofs.ReadySums.{sum-bands}
 use Rattle.order_laws.proofs.AsEvents.{coarse-states}
 use Rattle.order_laws.proofs.Shares.{numbered}
 use Rattle.order_laws.proofs.FewSteps.{own-few, steps-few}
 use Rattle.order_laws.proofs.EachTurn.{each-turn}
-use Rattle.order_laws.proofs.Entries.{GoesOn, share-goes-on, entry-goes-on, ItsAction, its-action, own-by-plan, entry-steps, entry-is, at_action, action-kept, at-hart, acts}
+use Rattle.order_laws.proofs.Entries.{GoesOn, share-goes-on, entry-goes-on, ItsAction, its-turn, own-by-plan, entry-steps, entry-is, at_action, action-kept, at-hart, acts}
 use Rattle.order_laws.proofs.Bound.{entry-lowers, legal-bound, order-keeps}
 
 -- AT BOOT: a task at its start counts as much ready as waiting, so the potential is the bound
@@ -84,8 +86,9 @@ boot-potential loaded kernel limits =
     let plans = harts-sum loaded.plans 0 kernel.take in
     let waiting = waiting-sum 0 loaded.tasks in
     let ready = ready-sum 0 0 loaded.tasks loaded.slots in
+    let bands = sum-bands ready_potential loaded.bands (contexts_from 0 (take loaded.slots (bodies_from 0 loaded.tasks))) in
     let split = sum_by-take-drop waiting_potential (bodies_from 0 loaded.tasks) loaded.slots in
-    omega (arith, each, harts, plans, waiting, ready, split)
+    omega (arith, each, harts, plans, waiting, ready, bands, split)
 
 -- EVERY KERNEL: what each of its harts does, by itself and from one action to the next
 module _ (k : KernelParts) (kernel : IsKernel k) (loaded : Loaded) where
@@ -99,56 +102,59 @@ module _ (k : KernelParts) (kernel : IsKernel k) (loaded : Loaded) where
         let within = limits.plans number plan low in
         each-turn loaded.tasks k kernel number plan (subst IsPlanWithinLimits (get_or_from_slice_get loaded.plans number plan plan is) within)
 
-    -- A HART THAT GOES ON comes to its action,
-    module _ (co : CoarseState) (kept : IsCoarseKept k loaded co) (hart : ℕ) (g : GoesOn k loaded co hart) where
-      a : ItsAction k loaded one turns co kept hart g
-      a = its-action k loaded one turns co kept hart g
+  -- A HART THAT GOES ON, AND COMES TO ITS ACTION, makes few entries until then,
+  module _ (co : CoarseState) (kept : IsCoreKept k loaded co.core) (hart : ℕ) (g : GoesOn loaded co hart) (a : ItsAction k loaded co hart g) where
+    few-probes : length a.at.probes + 8 ≤ 30000
+    few-probes = let few = own-few k.code.words g.plan g.pace hart turn_steps g.state a.at a.own in omega (arith, few)
 
-      few-probes : length a.at.probes + 8 ≤ 30000
-      few-probes = let few = own-few k.code.words g.plan g.pace hart turn_steps g.state a.at a.own in omega (arith, few)
+    -- and leaves this core.
+    abbrev r : CoreAndAction
+    r = acted k.code.words co.core hart a.at
 
-      -- which leaves this core.
-      abbrev r : CoreAndAction
-      r = acted k.code.words co.core hart a.at
+    same-core : (after_entry k.code.words loaded.plans co hart).core ≡ r.core
+    same-core = ap (λ (x : CoarseState). x.core) (entry-is k loaded one co kept hart g a)
 
-      same-core : (after_entry k.code.words loaded.plans co hart).core ≡ r.core
-      same-core = ap (λ (x : CoarseState). x.core) (entry-is k loaded one turns co kept hart g a)
+    pub log-grows : length (after_entry k.code.words loaded.plans co hart).core.log ≤ length co.core.log + 30000
+    log-grows =
+        let action = step_few (at_action k loaded one co kept hart g a) hart a.at.hart (hart_step k.code.words a.at.hart)
+        (hart_step_few k.code.words a.at.hart) in
+        let own = length-append co.core.log a.at.probes in
+        let few = few-probes in
+        let same = ap (λ (c : CoreState). length c.log) same-core in
+        omega (arith, same, action, own, few)
 
-      pub log-grows : length (after_entry k.code.words loaded.plans co hart).core.log ≤ length co.core.log + 30000
-      log-grows =
-          let action = step_few (at_action k loaded one turns co kept hart g a) hart a.at.hart (hart_step k.code.words a.at.hart)
-          (hart_step_few k.code.words a.at.hart) in
-          let own = length-append co.core.log a.at.probes in
-          let few = few-probes in
-          let same = ap (λ (c : CoreState). length c.log) same-core in
-          omega (arith, same, action, own, few)
+    pub does-act : Acts k.code.words loaded.plans co hart
+    does-act =
+        let at = at_action k loaded one co kept hart g a in
+        let does = acts k loaded one co kept hart g a in
+        let number = numbered k loaded one at (action-kept k loaded one co kept hart g a) hart a.at.hart
+        (at-hart k loaded one co kept hart g a) in
+        let changes = step-changes hart at a.at.hart (hart_step k.code.words a.at.hart) number (step-named hart k.code.words a.at.hart number) in
+        let steps = entry-steps k loaded one co kept hart g a in
+        record {
+          action = does.0;
+          acts = ap (λ s. s.action) steps ∙ does.1;
+          steps = steps-few k.code.words (plan_at loaded.plans hart) (get_or co.paces hart boot_pace) hart max_steps co.core;
+          order = ap (λ (c : CoreState). c.board.order) same-core
+              ∙ changes.order
+              ∙ ap (λ action. co.core.board.order ++ entry_of hart action) does.1;
+        }
 
-      pub does-act : Acts k.code.words loaded.plans co hart
-      does-act =
-          let at = at_action k loaded one turns co kept hart g a in
-          let does = acts k loaded one turns co kept hart g a in
-          let number = numbered k loaded one at (action-kept k loaded one turns co kept hart g a) hart a.at.hart
-          (at-hart k loaded one turns co kept hart g a) in
-          let changes = step-changes hart at a.at.hart (hart_step k.code.words a.at.hart) number (step-named hart k.code.words a.at.hart number) in
-          let steps = entry-steps k loaded one turns co kept hart g a in
-          record {
-            action = does.0;
-            acts = ap (λ s. s.action) steps ∙ does.1;
-            steps = steps-few k.code.words (plan_at loaded.plans hart) (get_or co.paces hart boot_pace) hart max_steps co.core;
-            order = ap (λ (c : CoreState). c.board.order) same-core
-                ∙ changes.order
-                ∙ ap (λ action. co.core.board.order ++ entry_of hart action) does.1;
-          }
+    pub comes-so : (s : HartShare) → IsShareOf co hart s → ComesToAction k.code.words loaded.plans co hart s
+    comes-so s is = record {
+      at = a.at;
+      own = subst (λ p. own_steps k.code.words (plan_at loaded.plans hart) p hart max_steps s.hart ≡ Some a.at) (some-is (sym g.is_pace ∙ is.pace))
+          (subst (λ h. own_steps k.code.words (plan_at loaded.plans hart) g.pace hart max_steps h ≡ Some a.at) (some-is (sym g.is_hart ∙ is.hart))
+          (own-by-plan k loaded one co kept hart g a));
+      entry = entry-steps k loaded one co kept hart g a;
+      few = few-probes;
+    }
 
-      pub comes-so : (s : HartShare) → IsShareOf co hart s → ComesToAction k.code.words loaded.plans co hart s
-      comes-so s is = record {
-        at = a.at;
-        own = subst (λ p. own_steps k.code.words (plan_at loaded.plans hart) p hart max_steps s.hart ≡ Some a.at) (some-is (sym g.is_pace ∙ is.pace))
-            (subst (λ h. own_steps k.code.words (plan_at loaded.plans hart) g.pace hart max_steps h ≡ Some a.at) (some-is (sym g.is_hart ∙ is.hart))
-            (own-by-plan k loaded one turns co kept hart g a));
-        entry = entry-steps k loaded one turns co kept hart g a;
-        few = few-probes;
-      }
+  entry-acts : (limits : IsWithinLimits loaded) (co : CoarseState) → IsCoarseKept k loaded co → (hart : ℕ) → IsLegalEntry co hart
+      → Acts k.code.words loaded.plans co hart
+  entry-acts limits co kept hart legal =
+      let g = entry-goes-on k loaded limits.plan_each co kept.core kept.paces hart legal in
+      does-act co kept.core hart g (its-turn k loaded (turns limits) co kept hart g).action
 
   -- FROM BOOT: a hart is at the take
   boot-hart-at : (first count i : ℕ) (h : HartState) → slice_get (harts_from first count k.code.take) i ≡ Some h
@@ -181,8 +187,7 @@ module _ (k : KernelParts) (kernel : IsKernel k) (loaded : Loaded) where
     unfolding IsLegalFrom coarse_from
     order-from [] co kept legal = sym (append-nil co.core.board.order)
     order-from (hart ∷ order) co kept legal =
-        let g = entry-goes-on k loaded fits.limits.plan_each co kept hart legal.0 in
-        let does = does-act fits.limits co kept hart g in
+        let does = entry-acts fits.limits co kept hart legal.0 in
         let next = entry-lowers k loaded one fits.limits.plan_each (turns fits.limits) co kept hart legal.0 in
         order-from order (after_entry k.code.words loaded.plans co hart) next.kept legal.1
         ∙ ap (λ before. before ++ order) does.order
@@ -197,12 +202,12 @@ coarse-kept = record {
 }
 
 pub entries-act : EachEntryActs
-entries-act k kernel loaded limits co kept hart legal =
-    does-act k kernel loaded limits co kept hart (entry-goes-on k loaded limits.plan_each co kept hart legal)
+entries-act k kernel loaded limits co kept hart legal = entry-acts k kernel loaded limits co kept hart legal
 
 pub entries-few : EntriesAreFew
 entries-few k kernel loaded limits co kept hart legal =
-    log-grows k kernel loaded limits co kept hart (entry-goes-on k loaded limits.plan_each co kept hart legal)
+    let g = entry-goes-on k loaded limits.plan_each co kept.core kept.paces hart legal in
+    log-grows k kernel loaded co kept.core hart g (its-turn k loaded (turns k kernel loaded limits) co kept hart g).action
 
 pub boards-tell : BoardsTellOrders
 boards-tell k kernel loaded fits order legal =
@@ -228,4 +233,5 @@ legal-orders k kernel loaded fits order legal =
 
 pub harts-come : HartsComeToActions
 harts-come k kernel loaded limits co kept number s is goes_on =
-    comes-so k kernel loaded limits co kept number (share-goes-on k loaded limits.plan_each co kept number s is goes_on) s is
+    let g = share-goes-on k loaded limits.plan_each co kept.core kept.paces number s is goes_on in
+    comes-so k kernel loaded co kept.core number g (its-turn k loaded (turns k kernel loaded limits) co kept number g).action s is

@@ -3,6 +3,7 @@ pub mod Named
 pub mod OneEvent
 -- Entries of an order.
 pub mod AsEvents
+pub mod OneStep
 pub mod Shares
 pub mod WholeShares
 pub mod OwnSteps
@@ -18,10 +19,14 @@ pub mod UserCounts
 pub mod UserReach
 pub mod EachTurn
 pub mod Entries
+pub mod EachPaced
+pub mod ReadySums
 pub mod Potentials
 pub mod Bound
 pub mod FewSteps
 pub mod LegalOrders
+pub mod Stepped
+pub mod Judged
 pub mod OwnWay
 pub mod AlikeActions
 pub mod AlikeRuns

@@ -16,7 +16,7 @@ use Rattle.core_model.specs.declared.action.Action.TheVariants as actions
 use Rattle.core_model.specs.declared.event.Event.{Event}
 use Rattle.core_model.specs.declared.event.Event.TheVariants.{Go, Tick}
 use Rattle.core_model.specs.Events.{hart_of}
-use Rattle.core_model.specs.Board.{BoardState, take_from, give_ready_of, give_done_of, with_next_admitted}
+use Rattle.core_model.specs.Board.{BoardState, Front, front_of, take_from, give_ready_of, give_done_of, with_next_admitted}
 use Rattle.core_model.specs.Core.{CoreState, CoreAndAction, without_action, with_hart, take_action, after_take, after_give_done, after_call, after_step, after_go, after_tick, event_result}
 use Rattle.core_invariant.proofs.Items.{get-set_other}
 use Rattle.order_laws.specs.CoarseRuns.{entries_by}
@@ -61,14 +61,15 @@ module _ (hart : ℕ) where
     order = order;
   }
 
-  take-changes : (c : CoreState) (h : HartState) (begun : List CellWrite) (rd next : ℕ) (ready : List ContextState) → h.csrs.hart ≡ hart
-      → ChangesAt hart c (after_take c hart h begun rd next (take_from c.board hart ready))
-  take-changes c h begun rd next [] is =
-      with-changes c (answer_take begun rd next None h) (take_from c.board hart []).board (Some (take_action None))
+  take-changes : (c : CoreState) (h : HartState) (begun : List CellWrite) (rd next : ℕ) (front : Option Front) → h.csrs.hart ≡ hart
+      → ChangesAt hart c (after_take c hart h begun rd next (take_from c.board hart front))
+  take-changes c h begun rd next None is =
+      with-changes c (answer_take begun rd next None h) (take_from c.board hart None).board (Some (take_action None))
       (writes-named hart (begun ++ loaded_writes rd (take_cell None)) h is) refl
-  take-changes c h begun rd next (x ∷ rest) is =
-      with-changes c (answer_take begun rd next (Some x) h) (take_from c.board hart (x ∷ rest)).board (Some (take_action (Some x)))
-      (writes-named hart (begun ++ loaded_writes rd (take_cell (Some x))) h is) refl
+  take-changes c h begun rd next (Some front) is =
+      with-changes c (answer_take begun rd next (Some front.context) h) (take_from c.board hart (Some front)).board
+      (Some (take_action (Some front.context)))
+      (writes-named hart (begun ++ loaded_writes rd (take_cell (Some front.context))) h is) refl
 
   done-changes : (c : CoreState) (h : HartState) (begun : List CellWrite) (next : ℕ) (held : ContextState) (end : Option End) → h.csrs.hart ≡ hart
       → ChangesAt hart c (after_give_done c hart h begun next held end)
@@ -80,7 +81,7 @@ module _ (hart : ℕ) where
   call-changes : (c : CoreState) (h : HartState) (call : QueueCall) (begun : List CellWrite) (rd next : ℕ) (held : Option ContextState)
       → h.csrs.hart ≡ hart
       → ChangesAt hart c (after_call c hart h call begun rd next held)
-  call-changes c h Take begun rd next held is = take-changes c h begun rd next c.board.ready is
+  call-changes c h Take begun rd next held is = take-changes c h begun rd next (front_of c.board.ready.first c.board.ready.second) is
   call-changes c h GiveReady begun rd next None is = unchanged c
   call-changes c h GiveDone begun rd next None is = unchanged c
   call-changes c h GiveReady begun rd next (Some held) is =

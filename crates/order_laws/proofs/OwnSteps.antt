@@ -31,7 +31,7 @@ core-parts c d board harts log = rw (board, harts, log) refl
 
 -- what an event or two of a hart in a core come to: its step from where the tick left it
 module _ (code : List ℕ) (number : ℕ) where
-  ticked-result : (c : CoreState) (h : HartState) → slice_get c.harts number ≡ Some h → (due : Bool)
+  pub ticked-result : (c : CoreState) (h : HartState) → slice_get c.harts number ≡ Some h → (due : Bool)
       → result_of code c (if due then Tick number ∷ Go number ∷ [] else Go number ∷ [])
       ≡ after_step (moved_to c number (ticked_if due h) []) number (ticked_if due h) (hart_step code (ticked_if due h))
   unfolding result_of

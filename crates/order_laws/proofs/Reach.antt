@@ -94,6 +94,51 @@ module _ (code : List ℕ) (plan : Plan) (pace : HartPace) (number : ℕ) (There
           (hart_step code (ticked_if b h))) e
           ∙ ap (own_by (own_steps code plan pace number steps) (events_of_step plan pace number (Some h)) h) wants
 
+  -- after a step that goes on the rest of the way is left,
+  pub comes-then : (steps : ℕ) (h g : HartState) (probes : List Probe) (did : Did)
+      → hart_step code (ticked_if (is_tick_due plan pace h) h) ≡ Steps g probes did → Comes (suc steps) h → Comes (suc steps) g
+  unfolding own_steps
+  comes-then steps h g probes did is comes =
+      by-rest (own_steps code plan pace number steps g) refl
+      (subst (λ s. own_by (own_steps code plan pace number steps) events f s ≡ Some comes.action) is comes.own)
+    where
+      events : List Event
+      events = events_of_step plan pace number (Some h)
+
+      f : HartState
+      f = ticked_if (is_tick_due plan pace h) h
+
+      by-rest : (o : Option AtAction) → own_steps code plan pace number steps g ≡ o → after_own events probes o ≡ Some comes.action
+          → Comes (suc steps) g
+      by-rest None own e = absurd (cc e)
+      by-rest (Some b) own e =
+          let same : record { call = b.call; hart = b.hart; probes = probes ++ b.probes; events = events ++ b.events } ≡ comes.action = cc e in
+          record {
+            action = b;
+            own = own-longer code plan pace number steps g b own;
+            there = subst (λ (x : AtAction). There x.call x.hart) (sym same) comes.there;
+          }
+
+  -- a step that wants the queue is where it leads,
+  pub comes-here : (steps : ℕ) (h : HartState) (call : QueueCall) (begun : List CellWrite) (rd next : ℕ)
+      → hart_step code (ticked_if (is_tick_due plan pace h) h) ≡ Wants call begun rd next → Comes (suc steps) h
+      → There call (ticked_if (is_tick_due plan pace h) h)
+  unfolding own_steps
+  comes-here steps h call begun rd next is comes =
+      let events = events_of_step plan pace number (Some h) in
+      let f = ticked_if (is_tick_due plan pace h) h in
+      let own = subst (λ s. own_by (own_steps code plan pace number steps) events f s ≡ Some comes.action) is comes.own in
+      let same : record { call = call; hart = f; probes = []; events = events } ≡ comes.action = cc own in
+      subst (λ (x : AtAction). There x.call x.hart) (sym same) comes.there
+
+  -- and there is no third.
+  pub comes-on : (steps : ℕ) (h : HartState) → hart_step code (ticked_if (is_tick_due plan pace h) h) ≡ Wedged → Comes (suc steps) h → ⊥
+  unfolding own_steps
+  comes-on steps h is comes =
+      let own = subst (λ s. own_by (own_steps code plan pace number steps) (events_of_step plan pace number (Some h))
+      (ticked_if (is_tick_due plan pace h) h) s ≡ Some comes.action) is comes.own in
+      absurd (cc own)
+
   -- more steps come there too
   pub comes-longer : (more steps : ℕ) (h : HartState) → Comes steps h → Comes (more + steps) h
   comes-longer more steps h comes =

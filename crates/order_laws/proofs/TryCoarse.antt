@@ -29,7 +29,7 @@ task = record {
 }
 
 abbrev alone_on_a_hart : Task → Plan → Loaded
-alone_on_a_hart t plan = record { harts = 1; slots = 1; plans = plan ∷ []; tasks = t ∷ []; worlds = []; events = []; order = [] }
+alone_on_a_hart t plan = record { harts = 1; slots = 1; plans = plan ∷ []; tasks = t ∷ []; bands = 0 ∷ []; worlds = []; events = []; order = [] }
 
 abbrev ticks : List Event → List Event
 ticks events = filter (λ event. not (is_go event)) events

@@ -12,6 +12,7 @@ use Rattle.core_model.specs.Orders.{CoarseState, plan_at, max_steps, boot_coarse
 use Rattle.core_invariant.specs.KernelStates.{KernelParts, IsKernel, IsAlikeKernel}
 use Rattle.order_laws.specs.CoarseRuns.{coarse_from, coarse_state, times_in, HartShare, IsShareOf, AreSharesWhole, step_count}
 use Rattle.order_laws.specs.OwnSteps.{AtAction, own_steps, acted_steps}
+use Rattle.order_laws.specs.SteppedRuns.{stepped_from, AreLegalSteps, ComesOn}
 use Rattle.order_laws.specs.Potential.{potential_of}
 use Rattle.order_laws.specs.CoarseInvariant.{IsCoarseKept}
 
@@ -95,3 +96,11 @@ abbrev pub AlikeBundlesRunAlike : Type 0
 AlikeBundlesRunAlike =
     (k : KernelParts) → IsKernel k → IsAlikeKernel k → (loaded other : Loaded) → IsLoaded loaded → IsLoaded other → AreAlike loaded other
     → (order : List ℕ) → RunAlike k loaded other order
+
+-- Wherever the harts are in their steps, each that has not found nothing comes on to its queue action.
+abbrev pub StepsComeToActions : Type 0
+StepsComeToActions =
+    (k : KernelParts) → IsKernel k → (loaded : Loaded) → IsLoaded loaded → (steps : List ℕ)
+    → AreLegalSteps k.code.words loaded.plans (boot_coarse loaded k.code) steps
+    → (hart : ℕ) → IsLegalEntry (stepped_from k.code.words loaded.plans (boot_coarse loaded k.code) steps) hart
+    → ComesOn k.code.words loaded.plans (stepped_from k.code.words loaded.plans (boot_coarse loaded k.code) steps) hart

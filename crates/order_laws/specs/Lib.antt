@@ -4,4 +4,7 @@ pub mod Arrives
 pub mod Potential
 pub mod CoarseInvariant
 pub mod EachTurn
+pub mod SteppedRuns
+pub mod LongLogs
+pub mod Judging
 pub mod Laws

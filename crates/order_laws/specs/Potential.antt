@@ -5,7 +5,7 @@ use Rattle.std.specs.List.{sum_by}
 use Rattle.hart_model.specs.Context.{BodyState, ContextState}
 use Rattle.hart_model.specs.HartState.{HartState}
 use Rattle.core_model.specs.declared.plan.Plan.{Plan}
-use Rattle.core_model.specs.Board.{BoardState}
+use Rattle.core_model.specs.Board.{BoardState, all_ready}
 use Rattle.core_model.specs.Orders.{HartPace, CoarseState}
 
 -- what a waiting task may still cost: a take and a give for each instruction of its fuel, and for the used fuel
@@ -37,9 +37,9 @@ abbrev pub harts_potential : List Plan → List HartPace → List HartState → 
 harts_potential (plan ∷ plans) (pace ∷ paces) (h ∷ harts) = hart_potential plan pace h + harts_potential plans paces harts
 harts_potential plans paces harts = 0
 
--- the board: all that waits and all that is ready
+-- the board: all that waits, and all that is ready in both bands
 abbrev pub board_potential : BoardState → ℕ
-board_potential b = sum_by waiting_potential b.waiting + sum_by ready_potential b.ready
+board_potential b = sum_by waiting_potential b.waiting + sum_by ready_potential (all_ready b.ready)
 
 -- the potential of a coarse run under these plans
 abbrev pub potential_of : List Plan → CoarseState → ℕ

@@ -1,6 +1,7 @@
 //! Laws of coarse runs: each is the contract of a function that does nothing.
 
-ghost use Rattle.order_laws.specs.Laws.{CoarseStatesAreCores, SharesStay, SharesMakeUpLogs, CoarseRunsAreKept, EachEntryActs, EntriesAreFew, BoardsTellOrders, EntriesLowerThePotential, LegalOrdersAreBounded, HartsComeToActions, AlikeBundlesRunAlike};
+ghost use Rattle.order_laws.specs.Judging.{OrdersAreJudged};
+ghost use Rattle.order_laws.specs.Laws.{CoarseStatesAreCores, SharesStay, SharesMakeUpLogs, CoarseRunsAreKept, EachEntryActs, EntriesAreFew, BoardsTellOrders, EntriesLowerThePotential, LegalOrdersAreBounded, HartsComeToActions, AlikeBundlesRunAlike, StepsComeToActions};
 
 /// The core between the entries of an order is the one that the order's events leave, so that all that holds of a core after a list of events
 /// holds of it.
@@ -65,4 +66,16 @@ pub fn harts_come_to_actions()
 /// order. The order is legal for both or for neither, and their coarse logs agree publicly.
 pub fn alike_bundles_run_alike()
     ensures alike { AlikeBundlesRunAlike }
+{}
+
+/// Wherever the harts of a core are in their steps under their plans, each that has not found nothing comes on to its queue action by no more
+/// than 5,000 steps, and adds at most 30,000 entries to the log until then.
+pub fn steps_come_to_actions()
+    ensures come { StepsComeToActions }
+{}
+
+/// The run by an order, with or without a log that is kept, runs all of it exactly where the order is legal and the log has room for it. The
+/// first entry that isn't legal ends it at its place, and the first one that the log has no room for ends it, whichever is met first.
+pub fn orders_are_judged()
+    ensures judged { OrdersAreJudged }
 {}
