@@ -1,16 +1,18 @@
 -- The contexts of a board at boot, one slot after the other.
-use Rattle.std.proofs.Common.{◌≡◌, ℕ, zero, suc, ◌+◌, ◌<◌, ◌≤◌, List, [], ◌∷◌, ◌++◌, length, take, drop, refl, ap, sym, subst, ◌∙◌, add-zero, arith}
+use Rattle.std.proofs.Common.{◌≡◌, ℕ, zero, suc, ◌+◌, ◌<◌, ◌≤◌, List, [], ◌∷◌, ◌++◌, length, take, drop, refl, ap, sym, subst, ◌∙◌, add-zero, append-nil, arith}
 use Rattle.std.specs.Prelude.{All}
 use Rattle.std.proofs.lemmas.List.{length-replicate, get_or-replicate}
 use Rattle.std.proofs.lemmas.List.Elements.{All-nil, All-cons}
 use Rattle.hart_model.specs.Cells.{blank}
-use Rattle.hart_model.specs.Context.{BodyState, slot_len, task_of, fresh_words, admit_of, StandsForTask}
-use Rattle.core_model.specs.Board.{contexts_from}
+use Rattle.hart_model.specs.declared.tag.Cell.{Cell}
+use Rattle.hart_model.specs.Context.{BodyState, ContextState, slot_len, task_of, fresh_words, admit_of, StandsForTask}
+use Rattle.core_model.specs.Board.{by_bands, contexts_from}
+use Rattle.core_model.proofs.ReadyLists.{all-bands, by_bands-push}
 use Rattle.context_slot.specs.Fresh.{IsFresh}
 use Rattle.ready_queue.specs.Bodies.{AreFreshFrom}
 use Rattle.context_slot.proofs.Admitted.{admitted-stands}
 use Rattle.ready_queue.specs.declared.kind.Kind.TheVariants.{Ready}
-use Rattle.ready_queue.specs.Admitted.{next_context}
+use Rattle.ready_queue.specs.Admitted.{next_context, with_next}
 use Rattle.ready_queue.specs.Gives.{CanBeGiven}
 use Rattle.ready_queue.specs.Laws.{BootedContextsStand}
 
@@ -59,4 +61,16 @@ contexts-can slot task_no (b ∷ bs) h =
     All-cons (CanBeGiven Ready) (admit_of b slot fresh_words) (contexts_from (slot + 1) bs) (admitted-can b slot h.1) (contexts-can (slot + 1) (task_no + 1) bs h.2)
 
 pub booted-can : BootedContextsStand
-booted-can slots bodies h = contexts-can 0 0 (take slots bodies) (fresh-take slots 0 bodies h)
+booted-can slots bodies bands h =
+    all-bands (CanBeGiven Ready) bands (contexts_from 0 (take slots bodies)) (contexts-can 0 0 (take slots bodies) (fresh-take slots 0 bodies h))
+
+-- the next waiting task, by its band
+next-by-band : (bands : List ℕ) (contexts : List ContextState) (waiting : List BodyState) (slot : ℕ) (words : List Cell)
+    → with_next bands (by_bands bands contexts) waiting slot words ≡ by_bands bands (contexts ++ next_context waiting slot words)
+next-by-band bands contexts [] slot words = ap (by_bands bands) (sym (append-nil contexts))
+next-by-band bands contexts (b ∷ bs) slot words = sym (by_bands-push bands contexts (admit_of b slot words))
+
+pub bands-more : (bands : List ℕ) (k : ℕ) (bodies : List BodyState)
+    → with_next bands (by_bands bands (contexts_from 0 (take k bodies))) (drop k bodies) k fresh_words ≡ by_bands bands (contexts_from 0 (take (k + 1) bodies))
+bands-more bands k bodies =
+    next-by-band bands (contexts_from 0 (take k bodies)) (drop k bodies) k fresh_words ∙ ap (by_bands bands) (sym (contexts-more k bodies))

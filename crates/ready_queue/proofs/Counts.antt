@@ -2,8 +2,10 @@
 use Rattle.std.proofs.Common.{◌≡◌, ℕ, zero, suc, ◌+◌, ◌<◌, ◌≤◌, Bool, true, false, cond, List, [], ◌∷◌, length, drop, filter, get_or, arith, ap, ◌∙◌}
 use Rattle.std.specs.Prelude.{Contains}
 use Rattle.hart_model.specs.declared.tag.Cell.{Cell}
-use Rattle.hart_model.specs.Context.{BodyState}
-use Rattle.ready_queue.specs.Admitted.{next_context}
+use Rattle.hart_model.specs.Context.{BodyState, admit_of}
+use Rattle.core_model.specs.Board.{ReadyLists, all_ready}
+use Rattle.core_model.proofs.ReadyLists.{length-ready}
+use Rattle.ready_queue.specs.Admitted.{next_context, with_next}
 
 length-filter-le : {X : Type 0} (p : X → Bool) (xs : List X) → length (filter p xs) ≤ length xs
 length-filter-le p [] = omega arith
@@ -32,3 +34,8 @@ length-next (b ∷ bs) slot words = omega arith
 pub length-moved : (waiting : List BodyState) (slot : ℕ) (words : List Cell) → length (drop 1 waiting) + length (next_context waiting slot words) ≡ length waiting
 length-moved [] slot words = omega arith
 length-moved (b ∷ bs) slot words = omega arith
+
+pub length-with_next : (bands : List ℕ) (ready : ReadyLists) (waiting : List BodyState) (slot : ℕ) (words : List Cell)
+    → length (all_ready (with_next bands ready waiting slot words)) ≡ length (all_ready ready) + length (next_context waiting slot words)
+length-with_next bands ready [] slot words = omega arith
+length-with_next bands ready (b ∷ bs) slot words = length-ready bands ready (admit_of b slot words)

@@ -1,2 +1,4 @@
 pub mod Counts
 pub mod Booting
+pub mod Taking
+pub mod Finding

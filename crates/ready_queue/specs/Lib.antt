@@ -3,4 +3,5 @@ pub mod Admitted
 pub mod Gives
 pub mod Tasks
 pub mod HasRoom
+pub mod ReadyView
 pub mod Laws

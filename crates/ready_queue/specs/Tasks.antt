@@ -1,7 +1,7 @@
 -- The tasks of a board, by their numbers (this project's own).
 use Rattle.std.specs.Prelude.{◌≢◌, ℕ, All, Option, find, ◌==◌}
 use Rattle.hart_model.specs.Context.{BodyState, ContextState, DoneState}
-use Rattle.core_model.specs.Board.{BoardState, OutEntry}
+use Rattle.core_model.specs.Board.{BoardState, OutEntry, all_ready}
 
 -- the body of a task, if it waits
 abbrev pub waiting_body : BoardState → ℕ → Option BodyState
@@ -9,7 +9,7 @@ waiting_body b task = find (λ body. body.task_no == task) b.waiting
 
 -- its context, if it is ready
 abbrev pub ready_context : BoardState → ℕ → Option ContextState
-ready_context b task = find (λ c. c.body.task_no == task) b.ready
+ready_context b task = find (λ c. c.body.task_no == task) (all_ready b.ready)
 
 -- where it is out, if it is
 abbrev pub entry_of : BoardState → ℕ → Option OutEntry
@@ -24,7 +24,7 @@ abbrev pub IsNotWaiting : BoardState → ℕ → Type 0
 IsNotWaiting b task = All (λ body. body.task_no ≢ task) b.waiting
 
 abbrev pub IsNotReady : BoardState → ℕ → Type 0
-IsNotReady b task = All (λ c. c.body.task_no ≢ task) b.ready
+IsNotReady b task = All (λ c. c.body.task_no ≢ task) (all_ready b.ready)
 
 abbrev pub IsNotOut : BoardState → ℕ → Type 0
 IsNotOut b task = All (λ o. o.task_no ≢ task) b.out

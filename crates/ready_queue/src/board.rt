@@ -1,8 +1,8 @@
 //! The board.
 
-ghost use Rattle.std.specs.Prelude.{◌≡◌, ◌+◌, ◌<◌, ◌≤◌, ◌↔◌, [], length, IsNone, IsOk, IfOk, IfSome, OnOk, OnErr};
+ghost use Rattle.std.specs.Prelude.{◌≡◌, ◌+◌, ◌<◌, ◌≤◌, ◌↔◌, [], length, All, IsNone, IsOk, IfOk, IfSome, OnOk, OnErr};
 ghost use Rattle.std.specs.Option.{option_copied};
-ghost use Rattle.core_model.specs.Board.{HasSpareForOut, boot_board, take_of, give_ready_of, give_done_of};
+ghost use Rattle.core_model.specs.Board.{HasSpareForOut, all_ready, boot_board, take_of, give_ready_of, give_done_of};
 ghost use Rattle.core_model.specs.Homes.{waiting_home, slot_home, hart_home, ended_home, home_of};
 ghost use Rattle.ready_queue.specs.declared.kind.Kind.{Kind};
 ghost use Rattle.ready_queue.specs.Bodies.{AreFreshFrom};
@@ -12,6 +12,7 @@ ghost use Rattle.ready_queue.specs.Tasks.{waiting_body, ready_context, entry_of,
 use crate::entry::Entry;
 use crate::kind::Kind;
 use crate::moves::{admit_next, end_task, take_back};
+use crate::ready::Ready;
 use context_slot::{Body, Context, Done, slot_words};
 use core_model::Home;
 use std::alloc::{AllocError, Global};
@@ -24,7 +25,7 @@ use std::marker::Model;
 #[derive(Debug, Drop)]
 pub struct Board {
     waiting: VecDeque<Body>,
-    ready: VecDeque<Context>,
+    ready: Ready,
     out: Vec<Entry>,
     ended: Vec<Done>,
     order: Vec<u8>,
@@ -32,7 +33,6 @@ pub struct Board {
 
 impl Model for Board {
     ghost use Rattle.std.specs.Prelude.{◌-◌, vec_len, vec_capacity};
-    ghost use Rattle.std.specs.VecDeque.{deque_capacity};
     ghost use Rattle.core_model.specs.Board.{BoardWithSpare};
     ghost use Rattle.ready_queue.specs.HasRoom.{HasRoom};
 
@@ -41,22 +41,24 @@ impl Model for Board {
     ghost view = { λ b. record {
       lists = record {
         waiting = b.waiting.items;
-        ready = b.ready.items;
+        ready = b.ready.lists;
         out = b.out.items;
         ended = b.ended.items;
         order = b.order.items;
+        bands = b.ready.bands;
       };
       spare = vec_capacity b.order - vec_len b.order;
     } };
 
     ghost invariant = { λ b. HasRoom (record {
       waiting = b.waiting.items;
-      ready = b.ready.items;
+      ready = b.ready.lists;
       out = b.out.items;
       ended = b.ended.items;
       order = b.order.items;
+      bands = b.ready.bands;
     }) (record {
-      ready = deque_capacity b.ready;
+      ready = b.ready.room;
       out = vec_capacity b.out;
       ended = vec_capacity b.ended;
       order = vec_capacity b.order;
@@ -65,27 +67,34 @@ impl Model for Board {
 
 impl Board {
     /// A board at boot: task t is ready in slot t for as many slots as there are, 1 to 8, and the others wait in their order. There are
-    /// 1 to 32 tasks, whose numbers count up from 0, each at its start. `AllocError` is want of memory.
-    pub fn boot(alloc: Global, slots: u32, bodies: Vec<Body>) -> Result<Board, AllocError>
+    /// 1 to 32 tasks, whose numbers count up from 0, each at its start, and a band for each, 0 or 1. `AllocError` is want of memory.
+    pub fn boot(
+        alloc: Global,
+        slots: u32,
+        bodies: Vec<Body>,
+        bands: Vec<u32>,
+    ) -> Result<Board, AllocError>
         requires slots_least { 1 ≤ slots }
         requires slots_limit { slots ≤ 8 }
         requires tasks_least { 1 ≤ length bodies.items }
         requires tasks_limit { length bodies.items ≤ 32 }
         requires fresh { AreFreshFrom 0 bodies.items }
-        ensures lists { IfOk result (λ b. b.lists ≡ boot_board slots bodies.items) }
+        requires band_each { length bands.items ≡ length bodies.items }
+        requires bands { All (λ band. band ≤ 1) bands.items }
+        ensures lists { IfOk result (λ b. b.lists ≡ boot_board slots bodies.items bands.items) }
         ensures spare { IfOk result HasSpareForOut }
     {
         let tasks = bodies.len();
         let filled = slots.min(tasks as u32);
         let mut waiting = VecDeque::from_vec(bodies);
-        let mut ready = VecDeque::with_capacity(alloc, filled as usize)?;
+        let mut ready = Ready::new(alloc, slots as usize, bands)?;
         for slot in 0..filled {
             admit_next(&mut waiting, &mut ready, slot, slot_words(alloc)?);
         }
         Ok(Board {
             waiting,
             ready,
-            out: Vec::with_capacity(alloc, filled as usize)?,
+            out: Vec::with_capacity(alloc, slots as usize)?,
             ended: Vec::with_capacity(alloc, tasks)?,
             order: Vec::new(alloc),
         })
@@ -116,21 +125,22 @@ impl Board {
         self.order.reserve(self.out.len() + 2)
     }
 
-    /// The front of the ready contexts, which is out on this hart from then on; None exactly where none is ready. The hart's number is
-    /// below 8, it has nothing out, and the spare is at least two more than the number of contexts that are out. Takes no memory.
+    /// The front of the ready contexts of band 0, or where there is none that of band 1, which is out on this hart from then on; None
+    /// exactly where none is ready. The hart's number is below 8, it has nothing out, and the spare is at least two more than the number
+    /// of contexts that are out. Takes no memory.
     pub fn take(&mut self, hart: u32) -> Option<Context>
         requires hart { hart < 8 }
         requires nothing_out { HasNothingOut self.old.lists hart }
         requires spare { length self.old.lists.out + 2 ≤ self.old.spare }
         ensures lists { self.new.lists ≡ (take_of self.old.lists hart).board }
         ensures got { result ≡ (take_of self.old.lists hart).got }
-        ensures none { IsNone result ↔ (self.old.lists.ready ≡ []) }
+        ensures none { IsNone result ↔ (all_ready self.old.lists.ready ≡ []) }
         ensures out { IfSome result (λ context. IsOutOn self.new.lists hart context) }
         ensures used { self.new.spare + 1 ≡ self.old.spare }
         ensures spare { HasSpareForOut self.new }
     {
         self.order.push_reserved(hart as u8);
-        match self.ready.pop_front() {
+        match self.ready.pop() {
             Some(context) => {
                 let entry = Entry::new(context.body().task_no(), hart, context.slot());
                 self.out.push_reserved(entry);
@@ -141,8 +151,8 @@ impl Board {
     }
 
     /// Gives back what is out on this hart. A ready context stands for its task, which hasn't ended, and goes to the back of the ready
-    /// ones. A done one has an end and a scrubbed slot: its task goes to the ended ones, and its slot to the first waiting task, which
-    /// joins the back of the ready ones. Takes no memory.
+    /// ones of its band. A done one has an end and a scrubbed slot: its task goes to the ended ones, and its slot to the first waiting
+    /// task, which joins the back of the ready ones of its own band. Takes no memory.
     pub fn give(&mut self, hart: u32, ctx: Context, kind: Kind)
         requires out { IsOutOn self.old.lists hart ctx }
         requires kind { CanBeGiven kind ctx }
@@ -154,7 +164,7 @@ impl Board {
         self.order.push_reserved(hart as u8);
         take_back(&mut self.out, hart);
         match kind {
-            Kind::Ready => self.ready.push_back_reserved(ctx),
+            Kind::Ready => self.ready.push(ctx),
             Kind::Done => end_task(&mut self.waiting, &mut self.ready, &mut self.ended, ctx),
         }
     }
@@ -259,8 +269,6 @@ impl Board {
         ensures context { option_copied result ≡ ready_context self.now.lists task }
         ensures none { IsNone result ↔ IsNotReady self.now.lists task }
     {
-        self.ready
-            .iter()
-            .find(|context| context.body().task_no() == task)
+        self.ready.find(task)
     }
 }

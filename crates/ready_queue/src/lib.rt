@@ -7,6 +7,7 @@ mod entry;
 mod kind;
 pub mod laws;
 mod moves;
+mod ready;
 
 pub use board::Board;
 pub use context_slot::{Body, Context, Done};

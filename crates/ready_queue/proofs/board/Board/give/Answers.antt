@@ -1,13 +1,15 @@
 -- What was out on the hart isn't any more, so there is room for what takes its place.
-use Rattle.std.proofs.Common.{◌≡◌, ◌+◌, ◌-◌, ◌<◌, ◌≤◌, ◌==◌, not, false, length, vec_len, vec_capacity, refl, ap, sym, subst, ◌∙◌, arith, length-append}
+use Rattle.std.proofs.Common.{◌≡◌, ◌+◌, ◌-◌, ◌<◌, ◌≤◌, ◌==◌, not, false, length, vec_len, vec_capacity, refl, ap, sym, subst, ◌∙◌, arith}
 use Rattle.std.specs.Prelude.{All, Contains}
 use Rattle.std.proofs.lemmas.Bool.{eq-eqb}
 use Rattle.std.proofs.lemmas.List.{length_push}
 use Rattle.std.proofs.lemmas.List.Elements.{All-filter, All-drop}
-use Rattle.core_model.specs.Board.{OutEntry, BoardWithSpare, out_entry}
+use Rattle.core_model.specs.Board.{OutEntry, BoardWithSpare, all_ready, out_entry}
+use Rattle.core_model.proofs.ReadyLists.{length-ready}
 use Rattle.context_slot.specs.Fresh.{IsFresh}
 use Rattle.ready_queue.specs.Admitted.{next_context}
-use Rattle.ready_queue.proofs.Counts.{length-filter-lt, length-next, length-moved}
+use Rattle.ready_queue.specs.ReadyView.{ReadyView}
+use Rattle.ready_queue.proofs.Counts.{length-filter-lt, length-next, length-moved, length-with_next}
 use Rattle.ready_queue.proofs.board.Board.give.Goals as goal
 use Rattle.ready_queue.proofs.board.Board.give.Goals.{After-take_back}
 
@@ -39,9 +41,10 @@ invariant_of-self c =
     let i = c.self.inside in
     let h = c.self.invariant in
     let back = (goal.at.invariant_of-self c).After-take_back in
-    let more = ap length c.push_back_reserved.ensures.items ∙ length_push i.ready.items c.args.ctx in
+    let more = ap (λ (r : ReadyView). length (all_ready r.lists)) c.push.ensures.ready ∙ length-ready i.ready.bands i.ready.lists c.args.ctx in
+    let room = ap (λ (r : ReadyView). r.room) c.push.ensures.ready in
     record {
-      ready_room = omega (arith, shorter back, h.ready_room, c.push_back_reserved.ensures.capacity);
+      ready_room = omega (arith, shorter back, h.ready_room);
       out_room = omega (arith, shorter back, h.out_room, c.take_back.ensures.room);
       ended_room = omega (arith, shorter back, h.ended_room);
       order_room = order_left back;
@@ -61,10 +64,11 @@ invariant_of-self-in-Done c =
     let next = next_context i.waiting.items ctx.slot ctx.words in
     let waiting = ap length c.end_task.ensures.waiting in
     let moved = length-moved i.waiting.items ctx.slot ctx.words in
-    let ready = ap length c.end_task.ensures.ready ∙ length-append i.ready.items next in
+    let ready = ap (λ (r : ReadyView). length (all_ready r.lists)) c.end_task.ensures.ready ∙ length-with_next i.ready.bands i.ready.lists i.waiting.items ctx.slot ctx.words in
+    let room = ap (λ (r : ReadyView). r.room) c.end_task.ensures.ready in
     let one = length-next i.waiting.items ctx.slot ctx.words in
     record {
-      ready_room = omega (arith, shorter back, h.ready_room, c.end_task.ensures.room);
+      ready_room = omega (arith, shorter back, h.ready_room);
       out_room = omega (arith, shorter back, h.out_room, c.take_back.ensures.room);
       ended_room = omega (arith, shorter back, h.ended_room, c.end_task.ensures.ended_room, c.end_task.ensures.ended_len, i.ended.ok.0, c.end_task.new.ended.ok.0);
       order_room = order_left back;
