@@ -1,5 +1,5 @@
 -- What lines make of a draft that is in range is in range.
-use Rattle.std.proofs.Common.{◌≡◌, ℕ, ◌+◌, ◌-◌, ◌<◌, ◌≤◌, ◌^◌, ◌⊎◌, inl, inr, Bool, true, false, ◌&&◌, ◌||◌, cond, eqb, leb, List, [], ◌∷◌, ◌++◌, length, Option, Some, None, Result, Ok, Err, refl, sym, ap, ◌∙◌, arith, length-append}
+use Rattle.std.proofs.Common.{◌≡◌, ℕ, ◌+◌, ◌-◌, ◌<◌, ◌≤◌, ◌^◌, ◌⊎◌, inl, inr, Bool, true, false, ◌&&◌, ◌||◌, cond, eqb, ◌==◌, leb, List, [], ◌∷◌, ◌++◌, length, Option, Some, None, Result, Ok, Err, refl, sym, ap, ◌∙◌, arith, length-append}
 use Rattle.std.specs.List.{AllByRecursion}
 use Rattle.std.proofs.lemmas.Bool.{false≢true, or_parts, or_from, or_cases, and_parts, leb-true, eqb-true, eqb-false, ne_eqb}
 use Rattle.bundle_text.specs.Pieces.{tokens, is_text, is_text_byte, lines}
@@ -63,6 +63,7 @@ IsCodeFit number room (Text first_line ls) = (first_line + length ls ≤ number)
 record IsTaskFit (number room : ℕ) (task : TaskText) : Type 0 where
   out_max : task.out_max ≤ 4096
   data_len : task.data_len ≤ 1024
+  band : task.band ≤ 1
   tape : IsListFit IsWord room task.tape
   code : IsCodeFit number room task.code
 
@@ -90,6 +91,7 @@ task_grow : (number room more : ℕ) (task : TaskText) → room ≤ more → IsT
 task_grow number room more task le h = record {
   out_max = h.out_max;
   data_len = h.data_len;
+  band = h.band;
   tape = list_grow IsWord room more task.tape le h.tape;
   code = code_grow number room more task.code le h.code;
 }
@@ -117,13 +119,13 @@ plan_behind hart (p ∷ plans) plan e f =
 other_hart : (a b : ℕ) → eqb a b ≡ false → eqb b a ≡ false
 other_hart a b e = ne_eqb b a (λ same. eqb-false a b e (sym same))
 
-plans_apart : (plans : List PlanText) (plan : PlanText) → ArePlansApart plans → has_plan plan.hart plans ≡ false → ArePlansApart (plans ++ plan ∷ [])
+pub plans_apart : (plans : List PlanText) (plan : PlanText) → ArePlansApart plans → has_plan plan.hart plans ≡ false → ArePlansApart (plans ++ plan ∷ [])
 plans_apart [] plan apart e = (refl, tt)
 plans_apart (p ∷ plans) plan apart e =
     let q = or_parts (eqb p.hart plan.hart) (has_plan plan.hart plans) e in
     (plan_behind p.hart plans plan apart.0 (other_hart p.hart plan.hart q.0), plans_apart plans plan apart.1 q.1)
 
-worlds_as_long : (worlds : List World) (world : World) → AreWorldsAsLong worlds → is_as_long worlds (length world.tape) ≡ true
+pub worlds_as_long : (worlds : List World) (world : World) → AreWorldsAsLong worlds → is_as_long worlds (length world.tape) ≡ true
     → AreWorldsAsLong (worlds ++ world ∷ [])
 worlds_as_long [] world as_long e = tt
 worlds_as_long (first ∷ worlds) world as_long e =
@@ -152,8 +154,9 @@ words_of_range number room n d ts words a h =
 bundle_adds : (number room n : ℕ) (d : Draft) (ts : List (List ℕ)) (new : Draft) → Adds number room n d ts
     → with_operands word.Bundle number (record d { place = at.Header }) ts ≡ Ok new → Fits number room n new
 bundle_adds number room n d ts new a h =
-    let p = then_ok (one_number 1 1 ts) (λ version. Ok (record d { place = at.Header })) new h in
-    let same : record d { place = at.Header } ≡ new = same_ok (record d { place = at.Header }) new p.2 in
+    let p = then_ok (one_number 1 2 ts) (λ version. Ok (record d { place = at.Header; has_bands = version == 2 })) new h in
+    let found : Draft = record d { place = at.Header; has_bands = p.0 == 2 } in
+    let same : found ≡ new = same_ok found new p.2 in
     rw (← same) (record {
       slots = λ e. absurd (false≢true e);
       fuel = λ e. absurd (false≢true e);
@@ -217,16 +220,17 @@ plan_adds number room n d ts new a read h =
 task_adds : (number room n : ℕ) (d : Draft) (ts : List (List ℕ)) (new : Draft) → Adds number room n d ts → has_slots d.place ≡ true
     → with_operands word.Task number (record d { place = at.Tape }) ts ≡ Ok new → Fits number room n new
 task_adds number room n d ts new a read h =
-    let p = then_ok (task_operands ts) (λ limits. Ok (record d { place = at.Tape; task = task_with limits.0 limits.1 limits.2 })) new h in
-    let found : Draft = record d { place = at.Tape; task = task_with p.0.0 p.0.1 p.0.2 } in
+    let p = then_ok (task_operands d.has_bands ts) (λ limits. Ok (record d { place = at.Tape; task = task_with limits.0 limits.1 limits.2 limits.3 })) new h in
+    let found : Draft = record d { place = at.Tape; task = task_with p.0.0 p.0.1 p.0.2 p.0.3 } in
     let same : found ≡ new = same_ok found new p.2 in
-    let limits = task_range ts p.0 p.1 in
+    let limits = task_range d.has_bands ts p.0 p.1 in
     rw (← same) (record {
       slots = λ e. a.fits.slots read;
       fuel = λ e. (limits.fuel_low, limits.fuel_high);
       task = record {
         out_max = limits.out_max;
         data_len = limits.data_len;
+        band = limits.band;
         tape = list_none IsWord (room + n + 1);
         code = list_none IsWord (room + n + 1);
       };
@@ -247,6 +251,7 @@ tape_adds number room n d ts new a read open_task h =
       task = record {
         out_max = grown.out_max;
         data_len = grown.data_len;
+        band = grown.band;
         tape = list_append IsWord room n d.task.tape p.0 a.fits.task.tape more.0 more.1;
         code = grown.code;
       };
@@ -272,6 +277,7 @@ words_adds number room n d ts new a read open_task h =
       task = record {
         out_max = grown.out_max;
         data_len = grown.data_len;
+        band = grown.band;
         tape = grown.tape;
         code = more_words number room n d.task.code p.0 a.fits.task.code more.0 more.1;
       };
@@ -288,7 +294,7 @@ code_adds number room n d ts new a read open_task h =
     rw (← same) (record {
       slots = λ e. a.fits.slots read;
       fuel = λ e. a.fits.fuel open_task;
-      task = record { out_max = grown.out_max; data_len = grown.data_len; tape = grown.tape; code = (omega arith, tt) };
+      task = record { out_max = grown.out_max; data_len = grown.data_len; band = grown.band; tape = grown.tape; code = (omega arith, tt) };
       bundle = bundle_grow room (room + n + 1) d.bundle (omega arith) a.fits.bundle;
     })
 
@@ -303,6 +309,7 @@ task_in_range number room task low small h fuel = record {
   fuel_high = fuel.1;
   out_max = h.out_max;
   data_len = h.data_len;
+  band = h.band;
   tape = h.tape.each;
   tape_short = list_short IsWord room task.tape small h.tape;
   code = code_in_range number room task.code low small h.code;
@@ -319,7 +326,7 @@ end_adds number room n d ts new low a read open_task h =
     rw (← same) (record {
       slots = λ e. a.fits.slots read;
       fuel = λ e. absurd (false≢true e);
-      task = record { out_max = omega arith; data_len = omega arith; tape = list_none IsWord (room + n + 1); code = list_none IsWord (room + n + 1) };
+      task = record { out_max = omega arith; data_len = omega arith; band = omega arith; tape = list_none IsWord (room + n + 1); code = list_none IsWord (room + n + 1) };
       bundle = record {
         plans = grown.plans;
         apart = grown.apart;
@@ -504,6 +511,7 @@ code_adds_line false number room d line open_task fits h =
       task = record {
         out_max = grown.out_max;
         data_len = grown.data_len;
+        band = grown.band;
         tape = grown.tape;
         code = code_line_more number room (length line) d.task.code line h.task.code fits;
       };
@@ -571,7 +579,7 @@ nothing_fits : IsDraftFit 1 0 no_lines
 nothing_fits = record {
   slots = λ e. absurd (false≢true e);
   fuel = λ e. absurd (false≢true e);
-  task = record { out_max = omega arith; data_len = omega arith; tape = list_none IsWord 0; code = list_none IsWord 0 };
+  task = record { out_max = omega arith; data_len = omega arith; band = omega arith; tape = list_none IsWord 0; code = list_none IsWord 0 };
   bundle = record {
     plans = list_none IsPlanInRange 0;
     apart = tt;

@@ -29,6 +29,7 @@ whole = Ok (record {
     fuel = 5;
     out_max = 4;
     data_len = 0;
+    band = 0;
     tape = [];
     code = Words (0x02a00513 ∷ 0x00100893 ∷ 0x00000073 ∷ 0x00000893 ∷ 0x00000073 ∷ []);
   } ∷ [];
@@ -124,7 +125,7 @@ text : bundle_of (lf (codes "bundle 1" ∷ codes "slots 2" ∷ codes "task fuel 
     ≡ Ok (record {
       slots = 2;
       plans = [];
-      tasks = record { fuel = 1; out_max = 0; data_len = 0; tape = []; code = Text 5 (codes "endcode # not yet" ∷ []) } ∷ [];
+      tasks = record { fuel = 1; out_max = 0; data_len = 0; band = 0; tape = []; code = Text 5 (codes "endcode # not yet" ∷ []) } ∷ [];
       worlds = [];
       events = [];
       order = [];
@@ -151,3 +152,65 @@ uneven = refl
 from_the_left : bundle_of (lf (codes "bundle 1" ∷ codes "slots 1" ∷ codes "task fuel 0 out x data 0" ∷ [])) ≡ fault 3 OutOfRange
 unfolding with_line
 from_the_left = refl
+
+-- ---- bands
+
+abbrev text_with : List ℕ → List ℕ → List ℕ
+text_with version task = lf (version ∷ codes "slots 1" ∷ task ∷ codes "endtask" ∷ [])
+
+abbrev one_task : ℕ → Result Bundle BundleFault
+one_task band = Ok (record {
+  slots = 1;
+  plans = [];
+  tasks = record { fuel = 1; out_max = 2; data_len = 3; band = band; tape = []; code = Words [] } ∷ [];
+  worlds = [];
+  events = [];
+  order = [];
+})
+
+band_1 : bundle_of (text_with (codes "bundle 2") (codes "task fuel 1 out 2 data 3 band 1")) ≡ one_task 1
+unfolding with_line
+band_1 = refl
+
+band_0 : bundle_of (text_with (codes "bundle 02") (codes "task fuel 1 out 2 data 3 band 00")) ≡ one_task 0
+unfolding with_line
+band_0 = refl
+
+no_band : bundle_of (text_with (codes "bundle 1") (codes "task fuel 1 out 2 data 3")) ≡ one_task 0
+unfolding with_line
+no_band = refl
+
+version_0 : bundle_of (lf (codes "bundle 0" ∷ [])) ≡ fault 1 OutOfRange
+unfolding with_line
+version_0 = refl
+
+version_3 : bundle_of (lf (codes "bundle 3" ∷ [])) ≡ fault 1 OutOfRange
+unfolding with_line
+version_3 = refl
+
+-- a band in a text without bands
+band_of_version_1 : bundle_of (text_with (codes "bundle 1") (codes "task fuel 1 out 2 data 3 band 0")) ≡ fault 3 Operands
+unfolding with_line
+band_of_version_1 = refl
+
+-- a task of which a text with bands doesn't say the band
+no_band_of_version_2 : bundle_of (text_with (codes "bundle 2") (codes "task fuel 1 out 2 data 3")) ≡ fault 3 Operands
+unfolding with_line
+no_band_of_version_2 = refl
+
+band_twice : bundle_of (text_with (codes "bundle 2") (codes "task fuel 1 out 2 data 3 band 0 band 0")) ≡ fault 3 Operands
+unfolding with_line
+band_twice = refl
+
+other_word : bundle_of (text_with (codes "bundle 2") (codes "task fuel 0 out 2 data 3 bands 0")) ≡ fault 3 Operands
+unfolding with_line
+other_word = refl
+
+band_2 : bundle_of (text_with (codes "bundle 2") (codes "task fuel 1 out 2 data 3 band 2")) ≡ fault 3 OutOfRange
+unfolding with_line
+band_2 = refl
+
+-- the band is judged after the other numbers
+band_last : bundle_of (text_with (codes "bundle 2") (codes "task fuel 1 out 2 data 1025 band x")) ≡ fault 3 OutOfRange
+unfolding with_line
+band_last = refl

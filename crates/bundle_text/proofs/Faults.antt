@@ -1,9 +1,9 @@
 -- A fault of a text names one of its lines or the line after them, and no want of memory.
-use Rattle.std.proofs.Common.{◌≡◌, ◌≢◌, ℕ, ◌+◌, ◌≤◌, Bool, true, false, ◌&&◌, cond, eqb, leb, List, [], ◌∷◌, ◌++◌, length, codes, Option, Some, None, Result, Ok, Err, sym, subst, arith}
+use Rattle.std.proofs.Common.{◌≡◌, ◌≢◌, ℕ, ◌+◌, ◌≤◌, ◌==◌, Bool, true, false, ◌&&◌, cond, eqb, leb, List, [], ◌∷◌, ◌++◌, length, codes, Option, Some, None, Result, Ok, Err, sym, subst, arith}
 use Rattle.std.specs.Str.{bytes_eq}
 use Rattle.bundle_text.specs.Pieces.{is_text, tokens}
 use Rattle.bundle_text.specs.Numbers.{number_in, number_within, decimal_of, hex_of, without_0x, word_within, word_of}
-use Rattle.bundle_text.specs.Operands.{◌>>=◌, each, no_operands, one_number, are_limit_words, limits_of, task_operands, quanta_tokens, plan_of, plan_operands, has_plan, is_as_long, world_operands}
+use Rattle.bundle_text.specs.Operands.{◌>>=◌, each, no_operands, one_number, are_limit_words, band_token, limits_of, task_operands, quanta_tokens, plan_of, plan_operands, has_plan, is_as_long, world_operands}
 use Rattle.bundle_text.specs.Runs.{run_of, run_within, order_operand, event_with, event_operand}
 use Rattle.bundle_text.specs.Places.{word_named, place_after, may_end, is_in_code}
 use Rattle.bundle_text.specs.Lines.{task_with, with_words, with_plan, with_task_ended, with_operands, is_comment, placed_line, line_of_word, line_of_tokens, line_of_code, with_line, at_line, at_end, with_lines}
@@ -85,16 +85,19 @@ one_form low high [] = tt
 one_form low high (t ∷ []) = number_form low high t
 one_form low high (t ∷ u ∷ ts) = tt
 
-limits_form : (fuel out count : List ℕ) → RefusesByForm (limits_of fuel out count)
-limits_form fuel out count =
-    then_form (number_in 1 100000 fuel) (λ f. number_in 0 4096 out >>= λ o. number_in 0 1024 count >>= λ d. Ok (f, o, d)) (number_form 1 100000 fuel)
-    (λ f. then_form (number_in 0 4096 out) (λ o. number_in 0 1024 count >>= λ d. Ok (f, o, d)) (number_form 0 4096 out)
-    (λ o. then_form (number_in 0 1024 count) (λ d. Ok (f, o, d)) (number_form 0 1024 count) (λ d. tt)))
+limits_form : (fuel out count : List ℕ) (o : Option (List ℕ)) → RefusesByForm (limits_of fuel out count o)
+limits_form fuel out count None = tt
+limits_form fuel out count (Some band) =
+    then_form (number_in 1 100000 fuel) (λ f. number_in 0 4096 out >>= λ o. number_in 0 1024 count >>= λ d. number_in 0 1 band >>= λ b. Ok (f, o, d, b)) (number_form 1 100000 fuel)
+    (λ f. then_form (number_in 0 4096 out) (λ o. number_in 0 1024 count >>= λ d. number_in 0 1 band >>= λ b. Ok (f, o, d, b)) (number_form 0 4096 out)
+    (λ o. then_form (number_in 0 1024 count) (λ d. number_in 0 1 band >>= λ b. Ok (f, o, d, b)) (number_form 0 1024 count)
+    (λ d. then_form (number_in 0 1 band) (λ b. Ok (f, o, d, b)) (number_form 0 1 band) (λ b. tt))))
 
-task_form : (ts : List (List ℕ)) → RefusesByForm (task_operands ts)
-task_form (fuel_word ∷ fuel ∷ out_word ∷ out ∷ data_word ∷ data_len ∷ []) =
-    if_form (are_limit_words fuel_word out_word data_word) (limits_of fuel out data_len) (Err kind.Operands) (limits_form fuel out data_len) tt
-task_form _ = tt
+task_form : (has_bands : Bool) (ts : List (List ℕ)) → RefusesByForm (task_operands has_bands ts)
+task_form has_bands (fuel_word ∷ fuel ∷ out_word ∷ out ∷ data_word ∷ data_len ∷ rest) =
+    if_form (are_limit_words fuel_word out_word data_word) (limits_of fuel out data_len (band_token has_bands rest)) (Err kind.Operands)
+    (limits_form fuel out data_len (band_token has_bands rest)) tt
+task_form has_bands _ = tt
 
 plan_of_form : (hart tail : List ℕ) (o : Option (List (List ℕ))) → RefusesByForm (plan_of hart tail o)
 plan_of_form hart tail None = tt
@@ -122,7 +125,7 @@ world_form worlds (secret ∷ ts) =
     (λ s. then_form (each word_of ts) (λ tape. Ok (record { secret = s; tape = tape })) (each_form word_of word_form ts) (λ tape. tt))) tt
 
 operands_form : (w : Word) (number : ℕ) (d : Draft) (ts : List (List ℕ)) → RefusesByForm (with_operands w number d ts)
-operands_form word.Bundle number d ts = then_form (one_number 1 1 ts) (λ version. Ok d) (one_form 1 1 ts) (λ version. tt)
+operands_form word.Bundle number d ts = then_form (one_number 1 2 ts) (λ version. Ok (record d { has_bands = version == 2 })) (one_form 1 2 ts) (λ version. tt)
 operands_form word.Slots number d ts =
     then_form (one_number 1 8 ts) (λ slots. Ok (record d { bundle = record d.bundle { slots = slots } })) (one_form 1 8 ts) (λ slots. tt)
 operands_form word.Plan number d ts =
@@ -130,7 +133,8 @@ operands_form word.Plan number d ts =
     (λ plan. then_form (with_plan d.bundle.plans plan) (λ plans. Ok (record d { bundle = record d.bundle { plans = plans } }))
     (if_form (has_plan plan.hart d.bundle.plans) (Err kind.Repeated) (Ok (d.bundle.plans ++ plan ∷ [])) tt tt) (λ plans. tt))
 operands_form word.Task number d ts =
-    then_form (task_operands ts) (λ limits. Ok (record d { task = task_with limits.0 limits.1 limits.2 })) (task_form ts) (λ limits. tt)
+    then_form (task_operands d.has_bands ts) (λ limits. Ok (record d { task = task_with limits.0 limits.1 limits.2 limits.3 })) (task_form d.has_bands ts)
+    (λ limits. tt)
 operands_form word.Tape number d ts =
     then_form (each word_of ts) (λ words. Ok (record d { task = record d.task { tape = d.task.tape ++ words } })) (each_form word_of word_form ts) (λ words. tt)
 operands_form word.Words number d ts =

@@ -18,3 +18,4 @@ pub mod RunLaws
 pub mod Faults
 pub mod Examples
 pub mod RoundTrip
+pub mod Grammar

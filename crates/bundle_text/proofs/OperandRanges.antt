@@ -2,7 +2,7 @@
 use Rattle.std.proofs.Common.{◌≡◌, ℕ, ◌≤◌, Bool, true, false, cond, List, [], ◌∷◌, length, codes, Option, Some, None, Result, Ok, Err, refl, arith}
 use Rattle.std.specs.Str.{bytes_eq}
 use Rattle.bundle_text.specs.Numbers.{number_in, word_of}
-use Rattle.bundle_text.specs.Operands.{◌>>=◌, each, one_number, are_limit_words, limits_of, task_operands, quanta_tokens, plan_of, plan_operands, is_as_long, world_operands}
+use Rattle.bundle_text.specs.Operands.{◌>>=◌, each, one_number, are_limit_words, band_token, limits_of, task_operands, quanta_tokens, plan_of, plan_operands, is_as_long, world_operands}
 use Rattle.bundle_text.specs.Range.{IsWord, IsShort, IsQuantum, IsPlanInRange, IsWorldInRange}
 use Rattle.bundle_text.specs.declared.bundle.BundleKind.{BundleKind}
 use Rattle.bundle_text.specs.declared.bundle.BundleKind.TheVariants as kind
@@ -18,30 +18,35 @@ one_range low high [] n h = absurd (err_ok n kind.Operands h)
 one_range low high (t ∷ []) n h = number_range low high t n h
 one_range low high (t ∷ u ∷ ts) n h = absurd (err_ok n kind.Operands h)
 
-pub record AreLimits (limits : ℕ × ℕ × ℕ) : Type 0 where
+pub record AreLimits (limits : ℕ × ℕ × ℕ × ℕ) : Type 0 where
   pub fuel_low : 1 ≤ limits.0
   pub fuel_high : limits.0 ≤ 100000
   pub out_max : limits.1 ≤ 4096
   pub data_len : limits.2 ≤ 1024
+  pub band : limits.3 ≤ 1
 
-limits_range : (fuel out length_token : List ℕ) (limits : ℕ × ℕ × ℕ) → limits_of fuel out length_token ≡ Ok limits → AreLimits limits
-limits_range fuel out length_token limits h =
-    let f = then_ok (number_in 1 100000 fuel) (λ f. number_in 0 4096 out >>= λ o. number_in 0 1024 length_token >>= λ d. Ok (f, o, d)) limits h in
-    let o = then_ok (number_in 0 4096 out) (λ o. number_in 0 1024 length_token >>= λ d. Ok (f.0, o, d)) limits f.2 in
-    let d = then_ok (number_in 0 1024 length_token) (λ d. Ok (f.0, o.0, d)) limits o.2 in
+no_limits : (limits : ℕ × ℕ × ℕ × ℕ) → ◌≡◌ {A = Result (ℕ × ℕ × ℕ × ℕ) BundleKind} (Err kind.Operands) (Ok limits) → AreLimits limits
+no_limits limits h = absurd (err_ok limits kind.Operands h)
+
+limits_range : (fuel out length_token : List ℕ) (o : Option (List ℕ)) (limits : ℕ × ℕ × ℕ × ℕ) → limits_of fuel out length_token o ≡ Ok limits → AreLimits limits
+limits_range fuel out length_token None limits h = no_limits limits h
+limits_range fuel out length_token (Some band) limits h =
+    let f = then_ok (number_in 1 100000 fuel) (λ f. number_in 0 4096 out >>= λ o. number_in 0 1024 length_token >>= λ d. number_in 0 1 band >>= λ b. Ok (f, o, d, b)) limits h in
+    let o = then_ok (number_in 0 4096 out) (λ o. number_in 0 1024 length_token >>= λ d. number_in 0 1 band >>= λ b. Ok (f.0, o, d, b)) limits f.2 in
+    let d = then_ok (number_in 0 1024 length_token) (λ d. number_in 0 1 band >>= λ b. Ok (f.0, o.0, d, b)) limits o.2 in
+    let b = then_ok (number_in 0 1 band) (λ b. Ok (f.0, o.0, d.0, b)) limits d.2 in
     let fits_fuel = number_range 1 100000 fuel f.0 f.1 in
     let fits_out = number_range 0 4096 out o.0 o.1 in
     let fits_data = number_range 0 1024 length_token d.0 d.1 in
-    let same : (f.0, o.0, d.0) ≡ limits = same_ok (f.0, o.0, d.0) limits d.2 in
-    rw (← same) (record { fuel_low = fits_fuel.0; fuel_high = fits_fuel.1; out_max = fits_out.1; data_len = fits_data.1 })
+    let fits_band = number_range 0 1 band b.0 b.1 in
+    let same : (f.0, o.0, d.0, b.0) ≡ limits = same_ok (f.0, o.0, d.0, b.0) limits b.2 in
+    rw (← same) (record { fuel_low = fits_fuel.0; fuel_high = fits_fuel.1; out_max = fits_out.1; data_len = fits_data.1; band = fits_band.1 })
 
-no_limits : (limits : ℕ × ℕ × ℕ) → ◌≡◌ {A = Result (ℕ × ℕ × ℕ) BundleKind} (Err kind.Operands) (Ok limits) → AreLimits limits
-no_limits limits h = absurd (err_ok limits kind.Operands h)
-
-pub task_range : (ts : List (List ℕ)) (limits : ℕ × ℕ × ℕ) → task_operands ts ≡ Ok limits → AreLimits limits
-task_range (fuel_word ∷ fuel ∷ out_word ∷ out ∷ data_word ∷ data_len ∷ []) limits h =
-    limits_range fuel out data_len limits (if_ok (are_limit_words fuel_word out_word data_word) (limits_of fuel out data_len) kind.Operands limits h).1
-task_range _ limits h = no_limits limits h
+pub task_range : (has_bands : Bool) (ts : List (List ℕ)) (limits : ℕ × ℕ × ℕ × ℕ) → task_operands has_bands ts ≡ Ok limits → AreLimits limits
+task_range has_bands (fuel_word ∷ fuel ∷ out_word ∷ out ∷ data_word ∷ data_len ∷ rest) limits h =
+    limits_range fuel out data_len (band_token has_bands rest) limits
+    (if_ok (are_limit_words fuel_word out_word data_word) (limits_of fuel out data_len (band_token has_bands rest)) kind.Operands limits h).1
+task_range has_bands _ limits h = no_limits limits h
 
 quantum_range : (t : List ℕ) (n : ℕ) → number_in 0 4096 t ≡ Ok n → IsQuantum n
 quantum_range t n h = (number_range 0 4096 t n h).1

@@ -1,10 +1,9 @@
 -- The form of a bundle by productions: the lines of a text, the tokens of a line and the number of a token. Decimal numbers and the runs
--- of events and orders are `timer_plan`'s. What the lines say is in `Lines`, case by case.
-use Rattle.std.specs.Prelude.{◌≡◌, ◌≢◌, ℕ, ◌≤◌, ◌⊎◌, List, [], ◌∷◌, ◌++◌, length, codes, slice_index, Ok, Err}
+-- of events and orders are `timer_plan`'s. What the lines say, section by section, is in `Grammar`.
+use Rattle.std.specs.Prelude.{◌≡◌, ◌≢◌, ℕ, ◌≤◌, ◌⊎◌, List, [], ◌∷◌, ◌++◌, length, codes, slice_index, Err}
 use Rattle.std.specs.List.{AllByRecursion}
 use Rattle.std.specs.Str.Parse.{IsNumeral, digits_value}
 use Rattle.bundle_text.specs.Lines.{with_lines, no_lines}
-use Rattle.bundle_text.specs.declared.bundle.Bundle.{Bundle}
 use Rattle.bundle_text.specs.declared.bundle.BundleFault.{BundleFault}
 
 -- LF
@@ -72,12 +71,6 @@ pub record IsLongHex (text : List ℕ) : Type 0 where
   pub digits : List ℕ
   pub spelled : SpellsHex text digits
   pub many : 9 ≤ length digits
-
--- The bytes read as this bundle.
-pub record Reads (bytes : List ℕ) (bundle : Bundle) : Type 0 where
-  pub text : List (List ℕ)
-  pub text_is : AreLinesOf text bytes
-  pub says : with_lines 1 no_lines text ≡ Ok bundle
 
 -- The first line of the bytes that breaks the form, and by what.
 pub record Breaks (bytes : List ℕ) (fault : BundleFault) : Type 0 where

@@ -7,4 +7,5 @@ pub mod Lines
 pub mod Form
 pub mod Answer
 pub mod Range
+pub mod Grammar
 pub mod Text

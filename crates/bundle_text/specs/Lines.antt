@@ -23,8 +23,8 @@ use Rattle.bundle_text.specs.declared.bundle.BundleKind.TheVariants.{NotText, Un
 -- ---- what the operands of a line add
 
 -- a task without tape and code
-abbrev pub task_with : ℕ → ℕ → ℕ → TaskText
-task_with fuel out_max data_len = record { fuel = fuel; out_max = out_max; data_len = data_len; tape = []; code = Words [] }
+abbrev pub task_with : ℕ → ℕ → ℕ → ℕ → TaskText
+task_with fuel out_max data_len band = record { fuel = fuel; out_max = out_max; data_len = data_len; band = band; tape = []; code = Words [] }
 
 abbrev pub with_words : Code → List ℕ → Code
 with_words (Words words) more = Words (words ++ more)
@@ -41,15 +41,16 @@ with_plan plans plan = if has_plan plan.hart plans then Err Repeated else Ok (pl
 -- the task is ended, and none is open
 abbrev pub with_task_ended : Draft → Draft
 with_task_ended d =
-    record d { bundle = record d.bundle { tasks = d.bundle.tasks ++ d.task ∷ [] }; task = task_with 0 0 0 }
+    record d { bundle = record d.bundle { tasks = d.bundle.tasks ++ d.task ∷ [] }; task = task_with 0 0 0 0 }
 
 -- what a line of this word, number and operands adds
 abbrev pub with_operands : Word → ℕ → Draft → List (List ℕ) → Result Draft BundleKind
-with_operands word.Bundle number d ts = one_number 1 1 ts >>= λ version. Ok d
+with_operands word.Bundle number d ts = one_number 1 2 ts >>= λ version. Ok (record d { has_bands = version == 2 })
 with_operands word.Slots number d ts = one_number 1 8 ts >>= λ slots. Ok (record d { bundle = record d.bundle { slots = slots } })
 with_operands word.Plan number d ts =
     plan_operands ts >>= λ plan. with_plan d.bundle.plans plan >>= λ plans. Ok (record d { bundle = record d.bundle { plans = plans } })
-with_operands word.Task number d ts = task_operands ts >>= λ limits. Ok (record d { task = task_with limits.0 limits.1 limits.2 })
+with_operands word.Task number d ts =
+    task_operands d.has_bands ts >>= λ limits. Ok (record d { task = task_with limits.0 limits.1 limits.2 limits.3 })
 with_operands word.Tape number d ts = each word_of ts >>= λ words. Ok (record d { task = record d.task { tape = d.task.tape ++ words } })
 with_operands word.Words number d ts =
     each word_of ts >>= λ words. Ok (record d { task = record d.task { code = with_words d.task.code words } })
@@ -111,8 +112,9 @@ with_line number d line =
 abbrev pub no_lines : Draft
 no_lines = record {
   place = at.Start;
+  has_bands = false;
   bundle = record { slots = 0; plans = []; tasks = []; worlds = []; events = []; order = [] };
-  task = task_with 0 0 0;
+  task = task_with 0 0 0 0;
 }
 
 -- a fault at this line

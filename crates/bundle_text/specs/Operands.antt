@@ -34,24 +34,32 @@ one_number low high [] = Err Operands
 one_number low high (t ∷ []) = number_in low high t
 one_number low high (t ∷ u ∷ ts) = Err Operands
 
--- the fuel, the greatest output and the number of data words, of the tokens of three numbers
-abbrev pub limits_of : List ℕ → List ℕ → List ℕ → Result (ℕ × ℕ × ℕ) BundleKind
-limits_of fuel_token out_token data_token = do
-  fuel ← number_in 1 100000 fuel_token
-  out_max ← number_in 0 4096 out_token
-  data_len ← number_in 0 1024 data_token
-  Ok (fuel, out_max, data_len)
-
--- the words before these numbers
+-- the words before the numbers of a task
 abbrev pub are_limit_words : List ℕ → List ℕ → List ℕ → Bool
 are_limit_words fuel_word out_word data_word =
     bytes_eq fuel_word (codes "fuel") && bytes_eq out_word (codes "out") && bytes_eq data_word (codes "data")
 
--- `fuel F out O data D`
-abbrev pub task_operands : List (List ℕ) → Result (ℕ × ℕ × ℕ) BundleKind
-task_operands (fuel_word ∷ fuel ∷ out_word ∷ out ∷ data_word ∷ data_len ∷ []) =
-    if are_limit_words fuel_word out_word data_word then limits_of fuel out data_len else Err Operands
-task_operands _ = Err Operands
+-- the token of the band: that after `band`, or `0` in a text without bands
+abbrev pub band_token : Bool → List (List ℕ) → Option (List ℕ)
+band_token has_bands [] = if has_bands then None else Some (codes "0")
+band_token has_bands (word ∷ token ∷ []) = if has_bands && bytes_eq word (codes "band") then Some token else None
+band_token has_bands ts = None
+
+-- the fuel, the greatest output, the number of data words and the band that the tokens of these numbers say
+abbrev pub limits_of : List ℕ → List ℕ → List ℕ → Option (List ℕ) → Result (ℕ × ℕ × ℕ × ℕ) BundleKind
+limits_of fuel_token out_token data_token None = Err Operands
+limits_of fuel_token out_token data_token (Some band_token) = do
+  fuel ← number_in 1 100000 fuel_token
+  out_max ← number_in 0 4096 out_token
+  data_len ← number_in 0 1024 data_token
+  band ← number_in 0 1 band_token
+  Ok (fuel, out_max, data_len, band)
+
+-- `fuel F out O data D`, and in a text with bands `band B` after it; without bands it is band 0
+abbrev pub task_operands : Bool → List (List ℕ) → Result (ℕ × ℕ × ℕ × ℕ) BundleKind
+task_operands has_bands (fuel_word ∷ fuel ∷ out_word ∷ out ∷ data_word ∷ data_len ∷ rest) =
+    if are_limit_words fuel_word out_word data_word then limits_of fuel out data_len (band_token has_bands rest) else Err Operands
+task_operands has_bands ts = Err Operands
 
 -- the tokens of the quanta: none, or those after `quanta`
 abbrev pub quanta_tokens : List (List ℕ) → Option (List (List ℕ))

@@ -39,6 +39,7 @@ pub record IsTaskInRange (task : TaskText) : Type 0 where
   pub fuel_high : task.fuel ≤ 100000
   pub out_max : task.out_max ≤ 4096
   pub data_len : task.data_len ≤ 1024
+  pub band : task.band ≤ 1
   pub tape : AllByRecursion IsWord task.tape
   pub tape_short : IsShort task.tape
   pub code : IsCodeInRange task.code

@@ -1,6 +1,6 @@
 -- The canonical text of a bundle: lines in the order of the form, tokens with one blank between each two, no line for an empty list.
-use Rattle.std.specs.Prelude.{◌≡◌, ℕ, ◌/◌, ◌%◌, ◌^◌, ◌==◌, List, [], ◌∷◌, ◌++◌, map, codes, decimal, Ok, if◌then◌else◌}
-use Rattle.std.specs.List.{flat_map}
+use Rattle.std.specs.Prelude.{◌≡◌, ℕ, ◌/◌, ◌%◌, ◌^◌, ◌==◌, Bool, not, List, [], ◌∷◌, ◌++◌, map, codes, decimal, Ok, if◌then◌else◌}
+use Rattle.std.specs.List.{flat_map, list_any}
 use Rattle.core_model.specs.declared.event.Event.{Event}
 use Rattle.core_model.specs.declared.event.Event.TheVariants.{Go, Tick}
 use Rattle.core_model.specs.declared.event.EventRun.{EventRun}
@@ -44,12 +44,17 @@ abbrev pub code_text : Code → List ℕ
 code_text (Words words) = list_text (codes "words") (map word_text words)
 code_text (Text first_line lines) = codes "code\n" ++ (flat_map (λ line. line ++ codes "\n") lines ++ codes "endcode\n")
 
-abbrev pub task_head_text : TaskText → List ℕ
-task_head_text t =
-    line_text (codes "task") (codes "fuel" ∷ decimal t.fuel ∷ codes "out" ∷ decimal t.out_max ∷ codes "data" ∷ decimal t.data_len ∷ [])
+-- `band B`, in a text with bands
+abbrev pub band_text : Bool → ℕ → List (List ℕ)
+band_text has_bands band = if has_bands then codes "band" ∷ decimal band ∷ [] else []
 
-abbrev pub task_text : TaskText → List ℕ
-task_text t = task_head_text t ++ (list_text (codes "tape") (map word_text t.tape) ++ (code_text t.code ++ codes "endtask\n"))
+abbrev pub task_head_text : Bool → TaskText → List ℕ
+task_head_text has_bands t =
+    line_text (codes "task")
+    (codes "fuel" ∷ decimal t.fuel ∷ codes "out" ∷ decimal t.out_max ∷ codes "data" ∷ decimal t.data_len ∷ band_text has_bands t.band)
+
+abbrev pub task_text : Bool → TaskText → List ℕ
+task_text has_bands t = task_head_text has_bands t ++ (list_text (codes "tape") (map word_text t.tape) ++ (code_text t.code ++ codes "endtask\n"))
 
 abbrev pub world_text : World → List ℕ
 world_text w = line_text (codes "world") (decimal w.secret ∷ map word_text w.tape)
@@ -68,14 +73,21 @@ event_run_text run = event_text run.event ++ times_text run.times
 abbrev pub order_run_text : OrderRun → List ℕ
 order_run_text run = decimal run.hart ++ times_text run.times
 
--- `bundle 1` and the slots
-abbrev pub head_text : ℕ → List ℕ
-head_text slots = codes "bundle 1\n" ++ line_text (codes "slots") (decimal slots ∷ [])
+-- whether a task is of another band than 0: only then does the text say bands
+abbrev pub has_bands : List TaskText → Bool
+has_bands tasks = list_any (λ t. not (t.band == 0)) tasks
+
+abbrev pub version_text : Bool → List ℕ
+version_text has_bands = if has_bands then codes "bundle 2\n" else codes "bundle 1\n"
+
+-- the version and the slots
+abbrev pub head_text : Bool → ℕ → List ℕ
+head_text has_bands slots = version_text has_bands ++ line_text (codes "slots") (decimal slots ∷ [])
 
 -- the text that a bundle is written as
 abbrev pub text_of : Bundle → List ℕ
 text_of b =
-    head_text b.slots ++ (flat_map plan_text b.plans ++ (flat_map task_text b.tasks ++ (flat_map world_text b.worlds
+    head_text (has_bands b.tasks) b.slots ++ (flat_map plan_text b.plans ++ (flat_map (task_text (has_bands b.tasks)) b.tasks ++ (flat_map world_text b.worlds
     ++ (list_text (codes "events") (map event_run_text b.events) ++ list_text (codes "order") (map order_run_text b.order)))))
 
 -- ---- what a text doesn't keep: at which line code began

@@ -34,6 +34,8 @@ pub struct TaskText {
     pub out_max: u32,
     /// How many data words it has, 0 to 1,024.
     pub data_len: u32,
+    /// Its band, 0 or 1. Tasks of band 0 go first.
+    pub band: u32,
     /// The words that it may take as its input.
     pub tape: Words,
     /// Its code.

@@ -51,6 +51,8 @@ pub(crate) enum Place {
 pub(crate) struct Draft {
     /// Where the next line stands.
     pub(crate) place: Place,
+    /// Whether each task's line says its band.
+    pub(crate) has_bands: bool,
     /// What is said by all lines but those of a task that isn't ended.
     pub(crate) bundle: Bundle,
     /// The task that isn't ended; where there is none it says nothing.

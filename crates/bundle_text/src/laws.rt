@@ -8,8 +8,9 @@ ghost use Rattle.timer_plan.specs.Tokens.{IsDecimal, SpellsOrderRun, SpellsEvent
 ghost use Rattle.bundle_text.specs.Pieces.{lines, tokens};
 ghost use Rattle.bundle_text.specs.Numbers.{number_in, word_of};
 ghost use Rattle.bundle_text.specs.Runs.{order_operand, event_operand};
-ghost use Rattle.bundle_text.specs.Lines.{bundle_of};
-ghost use Rattle.bundle_text.specs.Form.{AreLinesOf, AreTokensOf, SpellsHex, IsHexWord, IsLongHex, Reads, Breaks};
+ghost use Rattle.bundle_text.specs.Lines.{no_lines, with_lines, bundle_of};
+ghost use Rattle.bundle_text.specs.Form.{AreLinesOf, AreTokensOf, SpellsHex, IsHexWord, IsLongHex, Breaks};
+ghost use Rattle.bundle_text.specs.Grammar.{IsBundle, Reads};
 ghost use Rattle.bundle_text.specs.declared.bundle.Bundle.{Bundle};
 ghost use Rattle.bundle_text.specs.declared.bundle.BundleFault.{BundleFault};
 ghost use Rattle.bundle_text.specs.declared.bundle.BundleKind.TheVariants.{BadNumber, OutOfRange, Memory};
@@ -50,6 +51,11 @@ pub fn event_runs_are_decided()
     ensures run { (text : List ℕ) (run : EventRun) → (event_operand text ≡ Ok run) ↔ (SpellsEventRun text run × IsInRange (hart_of run.event) run.times) }
     ensures bad_number { (text : List ℕ) → (event_operand text ≡ Err BadNumber) ↔ ((run : EventRun) → ¬ (SpellsEventRun text run)) }
     ensures out_of_range { (text : List ℕ) → (event_operand text ≡ Err OutOfRange) ↔ ((run : EventRun) × SpellsEventRun text run × IsOutOfRange (hart_of run.event) run.times) }
+{}
+
+/// The lines of a text are decided as a bundle exactly where they are its sections.
+pub fn sections_are_decided()
+    ensures sections { (text : List (List ℕ)) (bundle : Bundle) → (with_lines 1 no_lines text ≡ Ok bundle) ↔ IsBundle text bundle }
 {}
 
 /// The decision says what a text reads as, and by what it first breaks the form.

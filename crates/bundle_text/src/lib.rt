@@ -1,5 +1,5 @@
-//! Bundles as text: what the core is to run. `specs/Form.antt` has the form by productions, and `specs/Lines.antt` says line by line
-//! what a text says and where it first breaks the form.
+//! Bundles as text: what the core is to run. `specs/Grammar.antt` has the sections of a text and `specs/Form.antt` its lines, tokens and
+//! numbers, both by productions; `specs/Lines.antt` says line by line what a text says and where it first breaks the form.
 #![tactic(auto)]
 
 pub mod bundle;

@@ -1,9 +1,9 @@
 //! What the tokens after the first word of a line say.
 
-ghost use Rattle.std.specs.Prelude.{◌≡◌, option_map};
+ghost use Rattle.std.specs.Prelude.{◌≡◌, Some, option_map};
 ghost use Rattle.bundle_text.specs.Pieces.{texts};
 ghost use Rattle.bundle_text.specs.Numbers.{number_in, word_of};
-ghost use Rattle.bundle_text.specs.Operands.{each, one_number, are_limit_words, limits_of, task_operands, quanta_tokens, plan_of, plan_operands, has_plan, is_as_long, world_operands};
+ghost use Rattle.bundle_text.specs.Operands.{each, one_number, are_limit_words, band_token, limits_of, task_operands, quanta_tokens, plan_of, plan_operands, has_plan, is_as_long, world_operands};
 ghost use Rattle.bundle_text.specs.Runs.{event_operand, order_operand, kind_of};
 ghost use Rattle.bundle_text.specs.Answer.{Says, vec_items};
 
@@ -34,26 +34,63 @@ fn are_limit_words(fuel_word: &[u8], out_word: &[u8], data_word: &[u8]) -> bool
 }
 
 /// The numbers of a task.
-fn limits(fuel: &[u8], out: &[u8], data_len: &[u8]) -> Result<(u32, u32, u32), BundleKind>
-    ensures value { result ≡ limits_of fuel.now out.now data_len.now }
+fn limits(
+    fuel: &[u8],
+    out: &[u8],
+    data_len: &[u8],
+    band: &[u8],
+) -> Result<(u32, u32, u32, u32), BundleKind>
+    ensures value { result ≡ limits_of fuel.now out.now data_len.now (Some band.now) }
 {
     let fuel = number_in(1, 100_000, fuel)?;
     let out_max = number_in(0, 4096, out)?;
     let data_len = number_in(0, 1024, data_len)?;
-    Ok((fuel, out_max, data_len))
+    let band = number_in(0, 1, band)?;
+    Ok((fuel, out_max, data_len, band))
 }
 
-/// The fuel, the greatest output and the number of data words of a task.
-pub(crate) fn task_operands(tokens: &[&[u8]]) -> Result<(u32, u32, u32), BundleKind>
-    ensures value { result ≡ task_operands (texts tokens.now) }
+/// The token of a band: that after `band`, or `0` in a text without bands.
+fn band_token<'a>(has_bands: bool, tokens: &'a [&'a [u8]]) -> Option<&'a [u8]>
+    ensures value { option_map (λ t. t.now) result ≡ band_token has_bands (texts tokens.now) }
 {
-    let [fuel_word, fuel, out_word, out, data_word, data_len] = tokens else {
+    match tokens {
+        [] => { if has_bands { None } else { Some(b"0") } }
+        [word, token] => {
+            if has_bands && *word == b"band".as_slice() {
+                Some(token)
+            } else {
+                None
+            }
+        }
+        _ => None,
+    }
+}
+
+/// The fuel, the greatest output, the number of data words and the band of a task. Its line says the band where the text has bands.
+pub(crate) fn task_operands(
+    has_bands: bool,
+    tokens: &[&[u8]],
+) -> Result<(u32, u32, u32, u32), BundleKind>
+    ensures value { result ≡ task_operands has_bands (texts tokens.now) }
+{
+    let [
+        fuel_word,
+        fuel,
+        out_word,
+        out,
+        data_word,
+        data_len,
+        rest @ ..,
+    ] = tokens
+    else {
         return Err(BundleKind::Operands);
     };
-    if are_limit_words(fuel_word, out_word, data_word) {
-        limits(fuel, out, data_len)
-    } else {
-        Err(BundleKind::Operands)
+    if !are_limit_words(fuel_word, out_word, data_word) {
+        return Err(BundleKind::Operands);
+    }
+    match band_token(has_bands, rest) {
+        Some(band) => limits(fuel, out, data_len, band),
+        None => Err(BundleKind::Operands),
     }
 }
 

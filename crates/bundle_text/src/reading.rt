@@ -4,7 +4,8 @@ ghost use Rattle.std.specs.Prelude.{◌≡◌, ◌≢◌, ◌-◌, ◌+◌, ◌<
 ghost use Rattle.bundle_text.specs.Pieces.{texts, tokens as tokens_of};
 ghost use Rattle.bundle_text.specs.Lines.{task_with, with_words, with_code_line, with_plan, with_task_ended, with_operands, is_comment, is_endcode, line_of_word, line_of_tokens, line_of_code, with_line, no_lines, bundle_of};
 ghost use Rattle.bundle_text.specs.Answer.{Leaves, Answers};
-ghost use Rattle.bundle_text.specs.Form.{Reads, Breaks};
+ghost use Rattle.bundle_text.specs.Form.{Breaks};
+ghost use Rattle.bundle_text.specs.Grammar.{Reads};
 ghost use Rattle.bundle_text.specs.Range.{IsInRange};
 
 use crate::bundle::{Bundle, BundleFault, BundleKind, Code, Line, TaskText};
@@ -23,13 +24,14 @@ use std::mem;
 const NO_LINE: u32 = 0;
 
 /// A task without tape and code.
-fn task_with(alloc: Global, fuel: u32, out_max: u32, data_len: u32) -> TaskText
-    ensures value { result ≡ task_with fuel out_max data_len }
+fn task_with(alloc: Global, fuel: u32, out_max: u32, data_len: u32, band: u32) -> TaskText
+    ensures value { result ≡ task_with fuel out_max data_len band }
 {
     TaskText {
         fuel,
         out_max,
         data_len,
+        band,
         tape: Words::new(Vec::new(alloc)),
         code: Code::Words(Words::new(Vec::new(alloc))),
     }
@@ -41,6 +43,7 @@ fn no_lines(alloc: Global) -> Draft
 {
     Draft {
         place: Place::Start,
+        has_bands: false,
         bundle: Bundle {
             slots: 0,
             plans: Items::empty(alloc),
@@ -49,7 +52,7 @@ fn no_lines(alloc: Global) -> Draft
             events: Items::empty(alloc),
             order: Items::empty(alloc),
         },
-        task: task_with(alloc, 0, 0, 0),
+        task: task_with(alloc, 0, 0, 0, 0),
     }
 }
 
@@ -103,8 +106,8 @@ fn plan_line(alloc: Global, draft: &mut Draft, tokens: &[&[u8]]) -> Result<(), B
 fn task_line(alloc: Global, draft: &mut Draft, tokens: &[&[u8]]) -> Result<(), BundleKind>
     ensures value { Leaves result draft.new (with_operands Word.Task 0 draft.old (texts tokens.now)) }
 {
-    let (fuel, out_max, data_len) = task_operands(tokens)?;
-    draft.task = task_with(alloc, fuel, out_max, data_len);
+    let (fuel, out_max, data_len, band) = task_operands(draft.has_bands, tokens)?;
+    draft.task = task_with(alloc, fuel, out_max, data_len, band);
     Ok(())
 }
 
@@ -153,7 +156,7 @@ fn end_line(alloc: Global, draft: &mut Draft, tokens: &[&[u8]]) -> Result<(), Bu
     if !tokens.is_empty() {
         return Err(BundleKind::Operands);
     }
-    let task = mem::replace(&mut draft.task, task_with(alloc, 0, 0, 0));
+    let task = mem::replace(&mut draft.task, task_with(alloc, 0, 0, 0, 0));
     draft.bundle.tasks.push(task)?;
     Ok(())
 }
@@ -194,11 +197,12 @@ fn slots_line(draft: &mut Draft, tokens: &[&[u8]]) -> Result<(), BundleKind>
     Ok(())
 }
 
-/// Reads the version, which is 1.
+/// Reads the version, which is 1, or 2 where each task says its band.
 fn version_line(draft: &mut Draft, tokens: &[&[u8]]) -> Result<(), BundleKind>
     ensures value { Leaves result draft.new (with_operands Word.Bundle 0 draft.old (texts tokens.now)) }
 {
-    one_number(1, 1, tokens)?;
+    let version = one_number(1, 2, tokens)?;
+    draft.has_bands = version == 2;
     Ok(())
 }
 

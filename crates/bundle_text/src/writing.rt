@@ -4,7 +4,7 @@ ghost use Rattle.std.specs.Prelude.{◌≡◌, ◌<◌, ◌++◌, map, codes, de
 ghost use Rattle.std.specs.List.{flat_map};
 ghost use Rattle.bundle_text.specs.Form.{digit_char};
 ghost use Rattle.bundle_text.specs.Range.{IsWritable};
-ghost use Rattle.bundle_text.specs.Text.{word_text, after_blanks, list_text, quanta_text, plan_text, code_text, task_head_text, task_text, world_text, times_text, event_text, event_run_text, order_run_text, head_text, text_of, ReadsBack};
+ghost use Rattle.bundle_text.specs.Text.{word_text, after_blanks, list_text, quanta_text, plan_text, code_text, band_text, task_head_text, task_text, has_bands, world_text, times_text, event_text, event_run_text, order_run_text, head_text, text_of, ReadsBack};
 
 use crate::bundle::{Bundle, Code, Line, PlanText, TaskText, World};
 use core_model::{Event, EventRun, OrderRun};
@@ -75,11 +75,22 @@ fn add_list(name: &[u8], words: &[u32], out: &mut Vec<u8>) -> Result<(), AllocEr
     add(b"\n", out)
 }
 
-/// Appends the first two lines.
-fn add_head(slots: u32, out: &mut Vec<u8>) -> Result<(), AllocError>
-    ensures ok { OnOk result (out.new.items ≡ out.old.items ++ head_text slots) }
+/// Whether a task is of another band than 0.
+fn has_bands(tasks: &[TaskText]) -> bool
+    ensures value { result ≡ has_bands tasks.now }
 {
-    add(b"bundle 1\nslots ", out)?;
+    tasks.iter().any(|task| task.band != 0)
+}
+
+/// Appends the first two lines.
+fn add_head(has_bands: bool, slots: u32, out: &mut Vec<u8>) -> Result<(), AllocError>
+    ensures ok { OnOk result (out.new.items ≡ out.old.items ++ head_text has_bands slots) }
+{
+    if has_bands {
+        add(b"bundle 2\nslots ", out)?;
+    } else {
+        add(b"bundle 1\nslots ", out)?;
+    }
     add_decimal(slots, out)?;
     add(b"\n", out)
 }
@@ -153,9 +164,21 @@ fn add_code(code: &Code, out: &mut Vec<u8>) -> Result<(), AllocError>
     }
 }
 
+/// Appends the band of a task, in a text with bands.
+fn add_band(has_bands: bool, band: u32, out: &mut Vec<u8>) -> Result<(), AllocError>
+    ensures ok { OnOk result (out.new.items ≡ out.old.items ++ after_blanks (band_text has_bands band)) }
+{
+    if has_bands {
+        add(b" band ", out)?;
+        add_decimal(band, out)
+    } else {
+        Ok(())
+    }
+}
+
 /// Appends the first line of a task.
-fn add_task_head(task: &TaskText, out: &mut Vec<u8>) -> Result<(), AllocError>
-    ensures ok { OnOk result (out.new.items ≡ out.old.items ++ task_head_text task.now) }
+fn add_task_head(has_bands: bool, task: &TaskText, out: &mut Vec<u8>) -> Result<(), AllocError>
+    ensures ok { OnOk result (out.new.items ≡ out.old.items ++ task_head_text has_bands task.now) }
 {
     add(b"task fuel ", out)?;
     add_decimal(task.fuel, out)?;
@@ -163,25 +186,26 @@ fn add_task_head(task: &TaskText, out: &mut Vec<u8>) -> Result<(), AllocError>
     add_decimal(task.out_max, out)?;
     add(b" data ", out)?;
     add_decimal(task.data_len, out)?;
+    add_band(has_bands, task.band, out)?;
     add(b"\n", out)
 }
 
 /// Appends the lines of a task.
-fn add_task(task: &TaskText, out: &mut Vec<u8>) -> Result<(), AllocError>
-    ensures ok { OnOk result (out.new.items ≡ out.old.items ++ task_text task.now) }
+fn add_task(has_bands: bool, task: &TaskText, out: &mut Vec<u8>) -> Result<(), AllocError>
+    ensures ok { OnOk result (out.new.items ≡ out.old.items ++ task_text has_bands task.now) }
 {
-    add_task_head(task, out)?;
+    add_task_head(has_bands, task, out)?;
     add_list(b"tape", task.tape.as_slice(), out)?;
     add_code(&task.code, out)?;
     add(b"endtask\n", out)
 }
 
 /// Appends the lines of tasks.
-fn add_tasks(tasks: &[TaskText], out: &mut Vec<u8>) -> Result<(), AllocError>
-    ensures ok { OnOk result (out.new.items ≡ out.old.items ++ flat_map task_text tasks.now) }
+fn add_tasks(has_bands: bool, tasks: &[TaskText], out: &mut Vec<u8>) -> Result<(), AllocError>
+    ensures ok { OnOk result (out.new.items ≡ out.old.items ++ flat_map (task_text has_bands) tasks.now) }
 {
     for task in tasks {
-        add_task(task, out)?;
+        add_task(has_bands, task, out)?;
     }
     Ok(())
 }
@@ -294,9 +318,10 @@ pub fn write_bundle(alloc: Global, bundle: &Bundle) -> Result<Vec<u8>, AllocErro
     ensures reads_back { IfOk result (λ text. ReadsBack text.items bundle.now) }
 {
     let mut out = Vec::new(alloc);
-    add_head(bundle.slots, &mut out)?;
+    let has_bands = has_bands(bundle.tasks.as_slice());
+    add_head(has_bands, bundle.slots, &mut out)?;
     add_plans(bundle.plans.as_slice(), &mut out)?;
-    add_tasks(bundle.tasks.as_slice(), &mut out)?;
+    add_tasks(has_bands, bundle.tasks.as_slice(), &mut out)?;
     add_worlds(bundle.worlds.as_slice(), &mut out)?;
     add_events(bundle.events.as_slice(), &mut out)?;
     add_order(bundle.order.as_slice(), &mut out)?;

@@ -1,5 +1,5 @@
 -- Sums of what a bundle in range states fit 64 bits.
-use Rattle.std.proofs.Common.{◌≡◌, ℕ, ◌+◌, ◌*◌, ◌^◌, ◌<◌, ◌≤◌, List, length, None, map, arith}
+use Rattle.std.proofs.Common.{◌≡◌, ◌*◌, ◌^◌, ◌<◌, ◌≤◌, List, length, None, map, arith}
 use Rattle.std.specs.List.{All, AllByRecursion}
 use Rattle.std.proofs.lemmas.List.Elements.{All-from_recursion, All-weaker}
 use Rattle.std.proofs.lemmas.List.Sums.{sum_by-le}
@@ -7,7 +7,6 @@ use Rattle.core_model.specs.declared.event.EventRun.{EventRun}
 use Rattle.core_model.specs.declared.event.OrderRun.{OrderRun}
 use Rattle.core_model.specs.Events.{event_count, entry_count}
 use Rattle.bundle_text.specs.declared.bundle.Bundle.{Bundle}
-use Rattle.bundle_text.specs.declared.bundle.TaskText.{TaskText}
 use Rattle.bundle_text.specs.declared.bundle.PlanText.{PlanText}
 use Rattle.bundle_text.specs.Range.{IsShort, IsEventRunInRange, IsOrderRunInRange, IsTaskInRange, IsInRange}
 use Rattle.rv_loader.specs.declared.fault.What.TheVariants.{Quanta}

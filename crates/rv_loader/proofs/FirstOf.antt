@@ -1,5 +1,5 @@
 -- The first refusal of a list.
-use Rattle.std.proofs.Common.{◌≡◌, ℕ, ◌+◌, ◌<◌, ◌≤◌, ◌⊎◌, ◌&&◌, Bool, true, false, cond, nat_le, List, [], ◌∷◌, length, drop, get_or, map, Option, Some, None, refl, ap, ◌∙◌, sym, inl, inr, arith, rules, tests}
+use Rattle.std.proofs.Common.{◌≡◌, ℕ, ◌+◌, ◌<◌, ◌≤◌, ◌⊎◌, ◌&&◌, Bool, true, false, cond, nat_le, List, [], ◌∷◌, length, drop, get_or, map, Option, Some, None, refl, ap, ◌∙◌, sym, arith, tests}
 use Rattle.std.specs.Option.{option_or}
 use Rattle.std.specs.List.{AllByRecursion, Contains}
 use Rattle.std.proofs.lemmas.List.{at_drop_more, at_drop_all}

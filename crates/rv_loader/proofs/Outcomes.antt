@@ -1,8 +1,7 @@
 -- What lies behind an outcome of loading.
-use Rattle.std.proofs.Common.{◌≡◌, ◌≢◌, ℕ, ◌≤◌, ◌⊎◌, List, [], ◌∷◌, length, Option, Some, None, Result, Ok, Err, refl, ap, sym, subst, ◌∙◌, inl, inr, arith}
-use Rattle.std.specs.List.{All, AllByRecursion}
+use Rattle.std.proofs.Common.{◌≡◌, ℕ, List, [], ◌∷◌, Option, Some, None, Result, Ok, Err, refl, ap, sym, subst, ◌∙◌}
+use Rattle.std.specs.List.{AllByRecursion}
 use Rattle.std.proofs.lemmas.List.Elements.{All-from_recursion, recursion_from_All}
-use Rattle.asm_line.specs.declared.line.AsmKind.TheVariants as kinds
 use Rattle.core_model.specs.declared.loaded.Loaded.{Loaded}
 use Rattle.rv_asm.specs.declared.fault.AsmFault.{AsmFault}
 use Rattle.bundle_text.specs.declared.bundle.Bundle.{Bundle}
@@ -12,10 +11,10 @@ use Rattle.rv_loader.specs.declared.fault.LoadFault.{LoadFault}
 use Rattle.rv_loader.specs.declared.fault.LoadFault.TheVariants.{Asm, Limit, PlanForMissingHart, TooLong, Memory}
 use Rattle.rv_loader.specs.Coding.{words_of, coded_tasks}
 use Rattle.rv_loader.specs.Memory.{IsNoMemoryOfCode}
-use Rattle.rv_loader.specs.Refusals.{refusal_of, bound_of}
+use Rattle.rv_loader.specs.Refusals.{refusal_of}
 use Rattle.rv_loader.specs.Loading.{loaded_of, unless_refused, loading_of_coded, loading_of}
 use Rattle.rv_loader.specs.Valid.{IsTaskWithinLimits, IsValidBundle, IsSo}
-use Rattle.rv_loader.proofs.Zip.{IsCoded, AreCoded, are_coded, coding_of, all_coded, all_uncoded, length-coded, fault_is_of}
+use Rattle.rv_loader.proofs.Zip.{IsCoded, are_coded, coding_of, all_coded, all_uncoded, length-coded, fault_is_of}
 use Rattle.rv_loader.proofs.Unrefused.{HasFewWords, IsUnrefused, unrefused, is_unrefused}
 use Rattle.rv_loader.proofs.Causes.{IsSoLater, refusal_is_so}
 

@@ -1,6 +1,6 @@
 -- The harts' plans are those of the plan lines.
 use Rattle.std.proofs.Common.{◌≡◌, ◌≢◌, ℕ, zero, suc, ◌+◌, ◌<◌, ◌≤◌, Bool, true, false, cond, nat_eq, ◌||◌, List, [], ◌∷◌, length, map, get_or, refl, ap, sym, ◌∙◌, arith, tests}
-use Rattle.std.specs.List.{All, AllByRecursion, Contains, list_any, range_with_len, sum_by, slice_index_or}
+use Rattle.std.specs.List.{All, Contains, range_with_len, sum_by, slice_index_or}
 use Rattle.std.proofs.lemmas.List.Elements.{All-head, All-tail}
 use Rattle.std.proofs.lemmas.List.FromFn.{get_or-map-range_with_len}
 use Rattle.std.proofs.lemmas.List.Sums.{sum_by-cons}

@@ -1,12 +1,10 @@
 -- What it says of a bundle that nothing is refused.
-use Rattle.std.proofs.Common.{◌≡◌, ℕ, ◌<◌, ◌≤◌, ◌&&◌, true, false, nat_lt, nat_le, cond, List, [], ◌∷◌, length, map, Option, Some, None, refl, ap, arith, tests, ltb}
-use Rattle.std.specs.List.{All, AllByRecursion}
+use Rattle.std.proofs.Common.{◌≡◌, ℕ, ◌<◌, ◌≤◌, ◌&&◌, true, nat_lt, nat_le, cond, List, [], ◌∷◌, length, map, Option, Some, None, ap, arith, tests}
+use Rattle.std.specs.List.{All}
 use Rattle.std.proofs.lemmas.List.Elements.{All-from_recursion, recursion_from_All, All-weaker}
 use Rattle.core_model.specs.Events.{event_count, entry_count}
 use Rattle.core_model.specs.Limits.{max_tasks, max_code_words, max_tape_words, max_quanta, max_worlds, max_events, max_order_entries, max_action_bound}
-use Rattle.core_model.specs.declared.world.World.{World}
 use Rattle.bundle_text.specs.declared.bundle.Bundle.{Bundle}
-use Rattle.bundle_text.specs.declared.bundle.PlanText.{PlanText}
 use Rattle.rv_loader.specs.declared.coding.CodedTask.{CodedTask}
 use Rattle.rv_loader.specs.declared.fault.LoadFault.{LoadFault}
 use Rattle.rv_loader.specs.declared.fault.LoadFault.TheVariants.{Limit}

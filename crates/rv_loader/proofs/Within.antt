@@ -1,22 +1,18 @@
 -- What is loaded is within the limits.
-use Rattle.std.proofs.Common.{◌≡◌, ℕ, ◌+◌, ◌*◌, ◌<◌, ◌≤◌, Bool, true, false, cond, ◌==◌, List, [], ◌∷◌, length, map, get_or, Result, Ok, refl, ap, sym, subst, ◌∙◌, inl, arith}
+use Rattle.std.proofs.Common.{◌≡◌, ℕ, ◌+◌, ◌<◌, ◌≤◌, Bool, true, false, cond, ◌==◌, List, [], ◌∷◌, length, map, Ok, refl, ap, sym, ◌∙◌, inl, arith}
 use Rattle.std.specs.List.{All, AllByRecursion, range_with_len, enumerate_from, sum_by, slice_index_or}
-use Rattle.std.proofs.lemmas.List.{get_or-map, get_or_default, length-map}
+use Rattle.std.proofs.lemmas.List.{get_or-map, length-map}
 use Rattle.std.proofs.lemmas.List.Elements.{All-from_recursion, All-weaker, All-map, All-nil, All-cons, All-head, All-tail, All-contains}
 use Rattle.std.proofs.lemmas.List.Sums.{sum_by-cons}
 use Rattle.std.proofs.lemmas.List.FromFn.{length-map-range_with_len, length-enumerate_from, get_or-enumerate_from}
 use Rattle.isa_model.specs.declared.task.Task.{Task}
-use Rattle.isa_model.specs.TaskPlaces.{IsValidTask}
 use Rattle.core_model.specs.declared.plan.Plan.{Plan}
 use Rattle.core_model.specs.declared.world.World.{World}
 use Rattle.core_model.specs.declared.event.Event.{Event}
-use Rattle.core_model.specs.declared.event.Event.TheVariants.{Go, Tick}
-use Rattle.core_model.specs.declared.event.EventRun.{EventRun}
-use Rattle.core_model.specs.declared.event.OrderRun.{OrderRun}
 use Rattle.core_model.specs.declared.loaded.Loaded.{Loaded}
 use Rattle.core_model.specs.Events.{hart_of}
-use Rattle.core_model.specs.Limits.{max_harts, max_tasks, max_quanta}
-use Rattle.core_model.specs.Loaded.{action_bound, action_bound_of, IsPlanWithinLimits, IsTaskAt, AreTasksAtPlaces, AreAsLong, IsEventRunWithinLimits, IsOrderRunWithinLimits, IsWithinLimits, IsLoaded}
+use Rattle.core_model.specs.Limits.{max_harts, max_tasks, max_band, max_quanta}
+use Rattle.core_model.specs.Loaded.{action_bound_of, IsPlanWithinLimits, IsTaskAt, AreTasksAtPlaces, AreAsLong, IsEventRunWithinLimits, IsOrderRunWithinLimits, IsWithinLimits}
 use Rattle.bundle_text.specs.declared.bundle.Bundle.{Bundle}
 use Rattle.bundle_text.specs.declared.bundle.PlanText.{PlanText}
 use Rattle.bundle_text.specs.declared.bundle.TaskText.{TaskText}
@@ -24,9 +20,9 @@ use Rattle.bundle_text.specs.Range.{IsInRange, IsTaskInRange, IsPlanInRange, IsQ
 use Rattle.rv_loader.specs.declared.coding.CodedTask.{CodedTask}
 use Rattle.rv_loader.specs.Coding.{coded_tasks}
 use Rattle.rv_loader.specs.Refusals.{bound_of}
-use Rattle.rv_loader.specs.Loading.{missing_plan, plan_of, plans_of, task_at, placed_tasks, loaded_of, loading_of}
+use Rattle.rv_loader.specs.Loading.{missing_plan, plan_of, task_at, placed_tasks, loaded_of, loading_of}
 use Rattle.rv_loader.specs.Valid.{IsLoadedSoundly, HasPlansOfLines}
-use Rattle.rv_loader.proofs.Zip.{IsCoded, AreCoded, are_coded, all_coded, length-coded, fuels-coded}
+use Rattle.rv_loader.proofs.Zip.{IsCoded, AreCoded, are_coded, length-coded, fuels-coded}
 use Rattle.rv_loader.proofs.Unrefused.{HasFewWords, IsUnrefused, unrefused}
 use Rattle.rv_loader.proofs.Outcomes.{loaded_from}
 use Rattle.rv_loader.proofs.Places.{length-placed}
@@ -148,6 +144,10 @@ bound_is : (bundle : Bundle) (harts : ℕ) (tasks : List CodedTask) → IsInRang
 bound_is bundle harts tasks range zip facts =
     omega (arith, quanta-plans_of bundle.plans harts range.plans_apart facts.harts_there, fuels-placed 0 tasks, fuels-coded bundle.tasks tasks zip, length-placed tasks, length-coded bundle.tasks tasks zip)
 
+bands-within : (texts : List TaskText) → AllByRecursion IsTaskInRange texts → AllByRecursion (λ (t : TaskText). t.band ≤ max_band) texts
+bands-within [] range = tt
+bands-within (text ∷ texts) range = (range.0.band, bands-within texts range.1)
+
 limits_hold : (bundle : Bundle) (harts : ℕ) (tasks : List CodedTask) → 1 ≤ harts → harts ≤ max_harts → IsInRange bundle → AreCoded bundle.tasks tasks → IsUnrefused bundle harts tasks
     → IsWithinLimits (loaded_of bundle harts tasks)
 limits_hold bundle harts tasks low high range zip facts =
@@ -163,6 +163,8 @@ limits_hold bundle harts tasks low high range zip facts =
       tasks_low = rw (length-placed tasks) facts.tasks_low;
       tasks_high = rw (length-placed tasks) facts.tasks_high;
       tasks = at_places tasks facts.tasks_high small;
+      band_each = length-map bundle.tasks (λ (t : TaskText). t.band) ∙ length-coded bundle.tasks tasks zip ∙ sym (length-placed tasks);
+      bands = All-map (λ (band : ℕ). band ≤ max_band) (λ (t : TaskText). t.band) bundle.tasks (All-from_recursion _ bundle.tasks (bands-within bundle.tasks range.tasks));
       worlds_high = facts.worlds_high;
       worlds = facts.tapes_high;
       worlds_as_long = as_long bundle.worlds range.worlds_as_long;

@@ -1,9 +1,6 @@
 -- The words of a bundle's tasks (this project's own).
 use Rattle.std.specs.Prelude.{List, [], ◌∷◌, Result, Ok, Err, ℕ}
-use Rattle.asm_line.specs.declared.line.AsmKind.{AsmKind}
-use Rattle.asm_line.specs.declared.line.AsmKind.TheVariants as kinds
 use Rattle.rv_asm.specs.declared.fault.AsmFault.{AsmFault}
-use Rattle.rv_asm.specs.declared.assembling.Assembled.{Assembled}
 use Rattle.rv_asm.specs.Assembly.{assembly}
 use Rattle.bundle_text.specs.declared.bundle.Code.{Code}
 use Rattle.bundle_text.specs.declared.bundle.Code.TheVariants.{Words, Text}

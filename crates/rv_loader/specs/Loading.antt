@@ -8,6 +8,7 @@ use Rattle.core_model.specs.declared.loaded.Loaded.{Loaded}
 use Rattle.rv_asm.specs.declared.fault.AsmFault.{AsmFault}
 use Rattle.bundle_text.specs.declared.bundle.Bundle.{Bundle}
 use Rattle.bundle_text.specs.declared.bundle.PlanText.{PlanText}
+use Rattle.bundle_text.specs.declared.bundle.TaskText.{TaskText}
 use Rattle.rv_loader.specs.declared.coding.CodedTask.{CodedTask}
 use Rattle.rv_loader.specs.declared.fault.LoadFault.{LoadFault}
 use Rattle.rv_loader.specs.declared.fault.LoadFault.TheVariants.{Asm}
@@ -43,13 +44,18 @@ task_at numbered = record {
 abbrev pub placed_tasks : List CodedTask → List Task
 placed_tasks tasks = map task_at (enumerate_from 0 tasks)
 
--- The lists of worlds, events and order are the bundle's.
+-- the bands of tasks
+abbrev pub bands_of : List TaskText → List ℕ
+bands_of tasks = map (λ (t : TaskText). t.band) tasks
+
+-- The bands and the lists of worlds, events and order are the bundle's.
 abbrev pub loaded_of : Bundle → ℕ → List CodedTask → Loaded
 loaded_of bundle harts tasks = record {
   harts = harts;
   slots = bundle.slots;
   plans = plans_of bundle.plans harts;
   tasks = placed_tasks tasks;
+  bands = bands_of bundle.tasks;
   worlds = bundle.worlds;
   events = bundle.events;
   order = bundle.order;

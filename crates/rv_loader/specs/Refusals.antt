@@ -1,6 +1,6 @@
 -- Why a bundle isn't loaded, once its code is words (this project's own). Each refusal is a function of what it judges; they are
 -- tried one after the other.
-use Rattle.std.specs.Prelude.{ℕ, Bool, ◌&&◌, nat_lt, nat_le, if◌then◌else◌, List, [], ◌∷◌, length, map, Option, Some, None}
+use Rattle.std.specs.Prelude.{ℕ, ◌&&◌, nat_lt, nat_le, if◌then◌else◌, List, [], ◌∷◌, length, map, Option, Some, None}
 use Rattle.std.specs.Option.{option_or}
 use Rattle.std.specs.List.{sum_by}
 use Rattle.core_model.specs.declared.event.EventRun.{EventRun}

@@ -2,10 +2,10 @@
 
 ghost use Rattle.std.specs.Prelude.{◌≡◌, ◌<◌, ◌≤◌, IfOk, vec_len};
 ghost use Rattle.core_model.specs.Limits.{max_tasks};
-ghost use Rattle.rv_loader.specs.Loading.{plan_of, plans_of, task_at, placed_tasks, loaded_of};
+ghost use Rattle.rv_loader.specs.Loading.{plan_of, plans_of, task_at, placed_tasks, bands_of, loaded_of};
 
 use crate::coding::CodedTask;
-use bundle_text::{Bundle, PlanText};
+use bundle_text::{Bundle, PlanText, TaskText};
 use core_model::{Items, Loaded, Plan, Quanta, World};
 use isa_model::Task;
 use std::alloc::{AllocError, Global};
@@ -76,6 +76,17 @@ fn placed_tasks(alloc: Global, tasks: Vec<CodedTask>) -> Result<Items<Task>, All
     Ok(placed)
 }
 
+/// The bands of tasks.
+fn bands_of(alloc: Global, tasks: &[TaskText]) -> Result<Items<u32>, AllocError>
+    ensures bands { IfOk result (λ bands. bands ≡ bands_of tasks.now) }
+{
+    let mut bands = Items::empty(alloc);
+    for task in tasks {
+        bands.push(task.band)?;
+    }
+    Ok(bands)
+}
+
 /// The worlds in memory of their own.
 fn copied(alloc: Global, worlds: &[World]) -> Result<Items<World>, AllocError>
     ensures same { IfOk result (λ copies. copies ≡ worlds.now) }
@@ -102,6 +113,7 @@ pub(crate) fn loaded_of(
         slots: bundle.slots,
         plans: plans_of(alloc, bundle.plans.as_slice(), harts)?,
         tasks: placed_tasks(alloc, tasks)?,
+        bands: bands_of(alloc, bundle.tasks.as_slice())?,
         worlds: copied(alloc, bundle.worlds.as_slice())?,
         events: bundle.events.copy(alloc)?,
         order: bundle.order.copy(alloc)?,

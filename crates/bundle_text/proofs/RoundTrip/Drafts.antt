@@ -1,5 +1,5 @@
--- Drafts by their parts, and where lines may stand.
-use Rattle.std.proofs.Common.{◌≡◌, true, false, Some, refl}
+-- Drafts by their parts, of which one is whether the text says bands, and where lines may stand.
+use Rattle.std.proofs.Common.{◌≡◌, ℕ, Bool, true, false, List, Some, refl}
 use Rattle.bundle_text.specs.Places.{place_after, may_end, is_in_code}
 use Rattle.bundle_text.specs.Lines.{task_with}
 use Rattle.bundle_text.specs.declared.draft.Draft.{Draft}
@@ -8,13 +8,18 @@ use Rattle.bundle_text.specs.declared.draft.Place.{Place}
 use Rattle.bundle_text.specs.declared.draft.Place.TheVariants as at
 use Rattle.bundle_text.specs.declared.bundle.Bundle.{Bundle}
 use Rattle.bundle_text.specs.declared.bundle.TaskText.{TaskText}
+use Rattle.bundle_text.specs.declared.bundle.Code.{Code}
 
-abbrev pub draft_at : Place → Bundle → TaskText → Draft
-draft_at place bundle task = record { place = place; bundle = bundle; task = task }
+abbrev pub draft_at : Bool → Place → Bundle → TaskText → Draft
+draft_at banded place bundle task = record { place = place; has_bands = banded; bundle = bundle; task = task }
+
+-- a draft with a task so far: with this tape and this code
+abbrev pub so_far : Bool → Place → Bundle → TaskText → List ℕ → Code → Draft
+so_far banded place bundle t tape code = draft_at banded place bundle (record t { tape = tape; code = code })
 
 -- a draft in which no task is open
-abbrev pub closed_at : Place → Bundle → Draft
-closed_at place bundle = draft_at place bundle (task_with 0 0 0)
+abbrev pub closed_at : Bool → Place → Bundle → Draft
+closed_at banded place bundle = draft_at banded place bundle (task_with 0 0 0 0)
 
 -- ---- where the lines after a section may stand
 

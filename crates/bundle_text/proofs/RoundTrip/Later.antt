@@ -1,5 +1,5 @@
 -- Worlds, events and the order read as they are.
-use Rattle.std.proofs.Common.{◌≡◌, ℕ, true, List, [], ◌∷◌, ◌++◌, length, map, codes, Ok, refl, sym, ap, ◌∙◌, subst, append-nil, append_assoc, eq-eqb}
+use Rattle.std.proofs.Common.{◌≡◌, ℕ, Bool, true, List, [], ◌∷◌, ◌++◌, length, map, codes, Ok, refl, sym, ap, ◌∙◌, subst, append-nil, append_assoc, eq-eqb}
 use Rattle.std.specs.List.{AllByRecursion, flat_map}
 use Rattle.core_model.specs.declared.event.EventRun.{EventRun}
 use Rattle.core_model.specs.declared.event.OrderRun.{OrderRun}
@@ -30,39 +30,39 @@ names_order = record { plain = record { some = refl; visible = refl }; no_commen
 abbrev pub with_worlds : Bundle → List World → Bundle
 with_worlds bundle worlds = record bundle { worlds = bundle.worlds ++ worlds }
 
-pub record WorldsLead (number : ℕ) (place : Place) (bundle : Bundle) (worlds : List World) : Type 0 where
+pub record WorldsLead (banded : Bool) (number : ℕ) (place : Place) (bundle : Bundle) (worlds : List World) : Type 0 where
   pub next_place : Place
   pub may : MayEvents next_place
-  pub leads : Leads number (closed_at place bundle) (flat_map world_text worlds) (closed_at next_place (with_worlds bundle worlds))
+  pub leads : Leads number (closed_at banded place bundle) (flat_map world_text worlds) (closed_at banded next_place (with_worlds bundle worlds))
 
-world_leads : (number : ℕ) (place : Place) (bundle : Bundle) (w : World) → MayWorlds place → IsWorldInRange w
+world_leads : (banded : Bool) (number : ℕ) (place : Place) (bundle : Bundle) (w : World) → MayWorlds place → IsWorldInRange w
     → is_as_long bundle.worlds (length w.tape) ≡ true
-    → Leads number (closed_at place bundle) (world_text w) (closed_at at.Worlds (with_worlds bundle (w ∷ [])))
-world_leads number place bundle w may range long =
-    word_line_leads number (closed_at place bundle) (closed_at at.Worlds (with_worlds bundle (w ∷ []))) (codes "world") (world_tokens w) word.World
+    → Leads number (closed_at banded place bundle) (world_text w) (closed_at banded at.Worlds (with_worlds bundle (w ∷ [])))
+world_leads banded number place bundle w may range long =
+    word_line_leads number (closed_at banded place bundle) (closed_at banded at.Worlds (with_worlds bundle (w ∷ []))) (codes "world") (world_tokens w) word.World
     at.Worlds names_world (plain_world w range) may.later.later.outside may.worlds
-    (ap (λ r. r >>= λ read. Ok (closed_at at.Worlds (with_worlds bundle (read ∷ [])))) (world_operands-text bundle.worlds w range long))
+    (ap (λ r. r >>= λ read. Ok (closed_at banded at.Worlds (with_worlds bundle (read ∷ [])))) (world_operands-text bundle.worlds w range long))
 
-no_worlds_lead : (number : ℕ) (place : Place) (bundle : Bundle) → MayEvents place → WorldsLead number place bundle []
-no_worlds_lead number place bundle may = record {
+no_worlds_lead : (banded : Bool) (number : ℕ) (place : Place) (bundle : Bundle) → MayEvents place → WorldsLead banded number place bundle []
+no_worlds_lead banded number place bundle may = record {
   next_place = place;
   may = may;
-  leads = subst (λ (l : List World). Leads number (closed_at place bundle) [] (closed_at place (record bundle { worlds = l })))
-      (sym (append-nil bundle.worlds)) (leads_nothing number (closed_at place bundle));
+  leads = subst (λ (l : List World). Leads number (closed_at banded place bundle) [] (closed_at banded place (record bundle { worlds = l })))
+      (sym (append-nil bundle.worlds)) (leads_nothing number (closed_at banded place bundle));
 }
 
 -- one world, and then the others
-then_worlds : (number : ℕ) (place : Place) (bundle : Bundle) (w : World) (ws : List World)
-    (first : Leads number (closed_at place bundle) (world_text w) (closed_at at.Worlds (with_worlds bundle (w ∷ []))))
-    → WorldsLead first.after at.Worlds (with_worlds bundle (w ∷ [])) ws → WorldsLead number place bundle (w ∷ ws)
-then_worlds number place bundle w ws first others = record {
+then_worlds : (banded : Bool) (number : ℕ) (place : Place) (bundle : Bundle) (w : World) (ws : List World)
+    (first : Leads number (closed_at banded place bundle) (world_text w) (closed_at banded at.Worlds (with_worlds bundle (w ∷ []))))
+    → WorldsLead banded first.after at.Worlds (with_worlds bundle (w ∷ [])) ws → WorldsLead banded number place bundle (w ∷ ws)
+then_worlds banded number place bundle w ws first others = record {
   next_place = others.next_place;
   may = others.may;
   leads = subst
-      (λ (l : List World). Leads number (closed_at place bundle) (world_text w ++ flat_map world_text ws) (closed_at others.next_place (record bundle { worlds = l })))
+      (λ (l : List World). Leads number (closed_at banded place bundle) (world_text w ++ flat_map world_text ws) (closed_at banded others.next_place (record bundle { worlds = l })))
       (append_assoc bundle.worlds (w ∷ []) ws)
-      (leads_on number (closed_at place bundle) (closed_at at.Worlds (with_worlds bundle (w ∷ [])))
-      (closed_at others.next_place (with_worlds (with_worlds bundle (w ∷ [])) ws)) (world_text w) (flat_map world_text ws) first others.leads);
+      (leads_on number (closed_at banded place bundle) (closed_at banded at.Worlds (with_worlds bundle (w ∷ [])))
+      (closed_at banded others.next_place (with_worlds (with_worlds bundle (w ∷ [])) ws)) (world_text w) (flat_map world_text ws) first others.leads);
 }
 
 long_on : (n : ℕ) (front : List World) (w : World) → is_as_long front n ≡ true → length w.tape ≡ n → is_as_long (front ++ w ∷ []) n ≡ true
@@ -70,19 +70,19 @@ long_on n [] w e same = eq-eqb (length w.tape) n same
 long_on n (first ∷ more) w e same = e
 
 -- worlds of n words after such worlds
-equal_worlds_lead : (worlds : List World) (n number : ℕ) (place : Place) (bundle : Bundle) → MayWorlds place → AllByRecursion IsWorldInRange worlds
-    → is_as_long bundle.worlds n ≡ true → AllByRecursion (λ w. length w.tape ≡ n) worlds → WorldsLead number place bundle worlds
-equal_worlds_lead [] n number place bundle may range long same = no_worlds_lead number place bundle may.later
-equal_worlds_lead (w ∷ ws) n number place bundle may range long same =
-    let first = world_leads number place bundle w may range.0 (ap (λ k. is_as_long bundle.worlds k) same.0 ∙ long) in
-    then_worlds number place bundle w ws first
-    (equal_worlds_lead ws n first.after at.Worlds (with_worlds bundle (w ∷ [])) after_worlds range.1 (long_on n bundle.worlds w long same.0) same.1)
+equal_worlds_lead : (banded : Bool) (worlds : List World) (n number : ℕ) (place : Place) (bundle : Bundle) → MayWorlds place → AllByRecursion IsWorldInRange worlds
+    → is_as_long bundle.worlds n ≡ true → AllByRecursion (λ w. length w.tape ≡ n) worlds → WorldsLead banded number place bundle worlds
+equal_worlds_lead banded [] n number place bundle may range long same = no_worlds_lead banded number place bundle may.later
+equal_worlds_lead banded (w ∷ ws) n number place bundle may range long same =
+    let first = world_leads banded number place bundle w may range.0 (ap (λ k. is_as_long bundle.worlds k) same.0 ∙ long) in
+    then_worlds banded number place bundle w ws first
+    (equal_worlds_lead banded ws n first.after at.Worlds (with_worlds bundle (w ∷ [])) after_worlds range.1 (long_on n bundle.worlds w long same.0) same.1)
 
-pub worlds_lead : (worlds : List World) (number : ℕ) (place : Place) (bundle : Bundle) → MayWorlds place → bundle.worlds ≡ []
-    → AllByRecursion IsWorldInRange worlds → AreWorldsAsLong worlds → WorldsLead number place bundle worlds
-worlds_lead [] number place bundle may none range long = no_worlds_lead number place bundle may.later
-worlds_lead (w ∷ ws) number place bundle may none range long =
-    equal_worlds_lead (w ∷ ws) (length w.tape) number place bundle may range (ap (λ l. is_as_long l (length w.tape)) none) (refl, long)
+pub worlds_lead : (banded : Bool) (worlds : List World) (number : ℕ) (place : Place) (bundle : Bundle) → MayWorlds place → bundle.worlds ≡ []
+    → AllByRecursion IsWorldInRange worlds → AreWorldsAsLong worlds → WorldsLead banded number place bundle worlds
+worlds_lead banded [] number place bundle may none range long = no_worlds_lead banded number place bundle may.later
+worlds_lead banded (w ∷ ws) number place bundle may none range long =
+    equal_worlds_lead banded (w ∷ ws) (length w.tape) number place bundle may range (ap (λ l. is_as_long l (length w.tape)) none) (refl, long)
 
 -- ---- events
 
@@ -90,25 +90,25 @@ worlds_lead (w ∷ ws) number place bundle may none range long =
 abbrev pub with_events : Bundle → List EventRun → Bundle
 with_events bundle runs = record bundle { events = bundle.events ++ runs }
 
-pub record EventsLead (number : ℕ) (place : Place) (bundle : Bundle) (runs : List EventRun) : Type 0 where
+pub record EventsLead (banded : Bool) (number : ℕ) (place : Place) (bundle : Bundle) (runs : List EventRun) : Type 0 where
   pub next_place : Place
   pub may : MayOrder next_place
-  pub leads : Leads number (closed_at place bundle) (list_text (codes "events") (map event_run_text runs)) (closed_at next_place (with_events bundle runs))
+  pub leads : Leads number (closed_at banded place bundle) (list_text (codes "events") (map event_run_text runs)) (closed_at banded next_place (with_events bundle runs))
 
-pub events_lead : (runs : List EventRun) (number : ℕ) (place : Place) (bundle : Bundle) → MayEvents place → AllByRecursion IsEventRunInRange runs
-    → EventsLead number place bundle runs
-events_lead [] number place bundle may range = record {
+pub events_lead : (banded : Bool) (runs : List EventRun) (number : ℕ) (place : Place) (bundle : Bundle) → MayEvents place → AllByRecursion IsEventRunInRange runs
+    → EventsLead banded number place bundle runs
+events_lead banded [] number place bundle may range = record {
   next_place = place;
   may = may.later;
-  leads = subst (λ (l : List EventRun). Leads number (closed_at place bundle) [] (closed_at place (record bundle { events = l })))
-      (sym (append-nil bundle.events)) (leads_nothing number (closed_at place bundle));
+  leads = subst (λ (l : List EventRun). Leads number (closed_at banded place bundle) [] (closed_at banded place (record bundle { events = l })))
+      (sym (append-nil bundle.events)) (leads_nothing number (closed_at banded place bundle));
 }
-events_lead (run ∷ runs) number place bundle may range = record {
+events_lead banded (run ∷ runs) number place bundle may range = record {
   next_place = at.Events;
   may = after_events.later;
-  leads = word_line_leads number (closed_at place bundle) (closed_at at.Events (with_events bundle (run ∷ runs))) (codes "events")
+  leads = word_line_leads number (closed_at banded place bundle) (closed_at banded at.Events (with_events bundle (run ∷ runs))) (codes "events")
       (map event_run_text (run ∷ runs)) word.Events at.Events names_events (plain_events (run ∷ runs) range) may.later.outside may.events
-      (ap (λ r. r >>= λ more. Ok (closed_at at.Events (with_events bundle more))) (each-events (run ∷ runs) range));
+      (ap (λ r. r >>= λ more. Ok (closed_at banded at.Events (with_events bundle more))) (each-events (run ∷ runs) range));
 }
 
 -- ---- the order
@@ -117,23 +117,23 @@ events_lead (run ∷ runs) number place bundle may range = record {
 abbrev pub with_order : Bundle → List OrderRun → Bundle
 with_order bundle runs = record bundle { order = bundle.order ++ runs }
 
-pub record OrderLeads (number : ℕ) (place : Place) (bundle : Bundle) (runs : List OrderRun) : Type 0 where
+pub record OrderLeads (banded : Bool) (number : ℕ) (place : Place) (bundle : Bundle) (runs : List OrderRun) : Type 0 where
   pub next_place : Place
   pub may : MayOrder next_place
-  pub leads : Leads number (closed_at place bundle) (list_text (codes "order") (map order_run_text runs)) (closed_at next_place (with_order bundle runs))
+  pub leads : Leads number (closed_at banded place bundle) (list_text (codes "order") (map order_run_text runs)) (closed_at banded next_place (with_order bundle runs))
 
-pub order_leads : (runs : List OrderRun) (number : ℕ) (place : Place) (bundle : Bundle) → MayOrder place → AllByRecursion IsOrderRunInRange runs
-    → OrderLeads number place bundle runs
-order_leads [] number place bundle may range = record {
+pub order_leads : (banded : Bool) (runs : List OrderRun) (number : ℕ) (place : Place) (bundle : Bundle) → MayOrder place → AllByRecursion IsOrderRunInRange runs
+    → OrderLeads banded number place bundle runs
+order_leads banded [] number place bundle may range = record {
   next_place = place;
   may = may;
-  leads = subst (λ (l : List OrderRun). Leads number (closed_at place bundle) [] (closed_at place (record bundle { order = l })))
-      (sym (append-nil bundle.order)) (leads_nothing number (closed_at place bundle));
+  leads = subst (λ (l : List OrderRun). Leads number (closed_at banded place bundle) [] (closed_at banded place (record bundle { order = l })))
+      (sym (append-nil bundle.order)) (leads_nothing number (closed_at banded place bundle));
 }
-order_leads (run ∷ runs) number place bundle may range = record {
+order_leads banded (run ∷ runs) number place bundle may range = record {
   next_place = at.Order;
   may = after_order;
-  leads = word_line_leads number (closed_at place bundle) (closed_at at.Order (with_order bundle (run ∷ runs))) (codes "order")
+  leads = word_line_leads number (closed_at banded place bundle) (closed_at banded at.Order (with_order bundle (run ∷ runs))) (codes "order")
       (map order_run_text (run ∷ runs)) word.Order at.Order names_order (plain_order (run ∷ runs) range) may.outside may.order
-      (ap (λ r. r >>= λ more. Ok (closed_at at.Order (with_order bundle more))) (each-order (run ∷ runs) range));
+      (ap (λ r. r >>= λ more. Ok (closed_at banded at.Order (with_order bundle more))) (each-order (run ∷ runs) range));
 }

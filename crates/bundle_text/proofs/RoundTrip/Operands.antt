@@ -1,15 +1,15 @@
 -- The written operands of each kind of line read as they are.
-use Rattle.std.proofs.Common.{◌≡◌, ℕ, true, List, [], ◌∷◌, length, map, codes, decimal, Some, Result, Ok, Err, refl, ap, ◌∙◌, arith}
+use Rattle.std.proofs.Common.{◌≡◌, ℕ, ◌≤◌, ◌==◌, Bool, true, false, not, List, [], ◌∷◌, length, map, codes, decimal, Some, Result, Ok, Err, refl, sym, ap, ◌∙◌, arith}
 use Rattle.std.specs.List.{AllByRecursion}
-use Rattle.std.proofs.lemmas.Bool.{cond-true}
+use Rattle.std.proofs.lemmas.Bool.{cond-true, or_parts, not-false, eqb-true}
 use Rattle.std.proofs.lemmas.List.{length-map}
 use Rattle.core_model.specs.declared.event.EventRun.{EventRun}
 use Rattle.core_model.specs.declared.event.OrderRun.{OrderRun}
 use Rattle.bundle_text.specs.Numbers.{number_in, word_of}
-use Rattle.bundle_text.specs.Operands.{◌>>=◌, each, task_operands, quanta_tokens, plan_of, plan_operands, is_as_long, world_operands}
+use Rattle.bundle_text.specs.Operands.{◌>>=◌, each, limits_of, task_operands, quanta_tokens, plan_of, plan_operands, is_as_long, world_operands}
 use Rattle.bundle_text.specs.Runs.{event_operand, order_operand}
 use Rattle.bundle_text.specs.Range.{IsWord, IsQuantum, IsTaskInRange, IsPlanInRange, IsWorldInRange, IsEventRunInRange, IsOrderRunInRange}
-use Rattle.bundle_text.specs.Text.{word_text, quanta_text, event_run_text, order_run_text}
+use Rattle.bundle_text.specs.Text.{word_text, quanta_text, band_text, has_bands, event_run_text, order_run_text}
 use Rattle.bundle_text.specs.declared.bundle.TaskText.{TaskText}
 use Rattle.bundle_text.specs.declared.bundle.PlanText.{PlanText}
 use Rattle.core_model.specs.declared.world.World.{World}
@@ -53,20 +53,55 @@ plain_order runs all = each_plain order_run_text IsOrderRunInRange plain_order_r
 
 -- ---- a task
 
-abbrev pub task_tokens : TaskText → List (List ℕ)
-task_tokens t = codes "fuel" ∷ decimal t.fuel ∷ codes "out" ∷ decimal t.out_max ∷ codes "data" ∷ decimal t.data_len ∷ []
+abbrev pub task_tokens : Bool → TaskText → List (List ℕ)
+task_tokens banded t =
+    codes "fuel" ∷ decimal t.fuel ∷ codes "out" ∷ decimal t.out_max ∷ codes "data" ∷ decimal t.data_len ∷ band_text banded t.band
 
-pub task_operands-text : (t : TaskText) → IsTaskInRange t → task_operands (task_tokens t) ≡ Ok (t.fuel, t.out_max, t.data_len)
-task_operands-text t h =
+-- A text without bands tells those that are 0.
+abbrev pub IsBandTold : Bool → TaskText → Type 0
+IsBandTold true t = Unit {0}
+IsBandTold false t = t.band ≡ 0
+
+-- the text of a bundle tells the band of each of its tasks
+all_bands : (tasks : List TaskText) → AllByRecursion (IsBandTold true) tasks
+all_bands [] = tt
+all_bands (t ∷ ts) = (tt, all_bands ts)
+
+no_bands : (tasks : List TaskText) → has_bands tasks ≡ false → AllByRecursion (IsBandTold false) tasks
+no_bands [] e = tt
+no_bands (t ∷ ts) e =
+    let none = or_parts (not (t.band == 0)) (has_bands ts) e in
+    (eqb-true t.band 0 (not-false (t.band == 0) none.0), no_bands ts none.1)
+
+pub bands-told : (tasks : List TaskText) → AllByRecursion (IsBandTold (has_bands tasks)) tasks
+bands-told tasks = by_test (has_bands tasks) refl
+  where
+    by_test : (b : Bool) → has_bands tasks ≡ b → AllByRecursion (IsBandTold b) tasks
+    by_test true e = all_bands tasks
+    by_test false e = no_bands tasks e
+
+limits_of-text : (t : TaskText) (band_token : List ℕ) → IsTaskInRange t → number_in 0 1 band_token ≡ Ok t.band
+    → limits_of (decimal t.fuel) (decimal t.out_max) (decimal t.data_len) (Some band_token) ≡ Ok (t.fuel, t.out_max, t.data_len, t.band)
+limits_of-text t band_token h is =
     let fuel_high = h.fuel_high in
     let out_high = h.out_max in
     let data_high = h.data_len in
-    let rest : ℕ → Result (ℕ × ℕ × ℕ) BundleKind =
-    λ fuel. number_in 0 4096 (decimal t.out_max) >>= λ out. number_in 0 1024 (decimal t.data_len) >>= λ data_len. Ok (fuel, out, data_len) in
+    let rest : ℕ → Result (ℕ × ℕ × ℕ × ℕ) BundleKind =
+    λ fuel. number_in 0 4096 (decimal t.out_max) >>= λ out. number_in 0 1024 (decimal t.data_len) >>= λ data_len. number_in 0 1 band_token >>= λ band.
+    Ok (fuel, out, data_len, band) in
     ap (λ r. r >>= rest) (number_in-decimal 1 100000 t.fuel h.fuel_low h.fuel_high (omega arith))
-    ∙ ap (λ r. r >>= λ out. number_in 0 1024 (decimal t.data_len) >>= λ data_len. Ok (t.fuel, out, data_len))
+    ∙ ap (λ r. r >>= λ out. number_in 0 1024 (decimal t.data_len) >>= λ data_len. number_in 0 1 band_token >>= λ band. Ok (t.fuel, out, data_len, band))
     (number_in-decimal 0 4096 t.out_max (omega arith) h.out_max (omega arith))
-    ∙ ap (λ r. r >>= λ data_len. Ok (t.fuel, t.out_max, data_len)) (number_in-decimal 0 1024 t.data_len (omega arith) h.data_len (omega arith))
+    ∙ ap (λ r. r >>= λ data_len. number_in 0 1 band_token >>= λ band. Ok (t.fuel, t.out_max, data_len, band))
+    (number_in-decimal 0 1024 t.data_len (omega arith) h.data_len (omega arith))
+    ∙ ap (λ r. r >>= λ band. Ok (t.fuel, t.out_max, t.data_len, band)) is
+
+pub task_operands-text : (banded : Bool) (t : TaskText) → IsTaskInRange t → IsBandTold banded t
+    → task_operands banded (task_tokens banded t) ≡ Ok (t.fuel, t.out_max, t.data_len, t.band)
+task_operands-text false t h told =
+    let first : number_in 0 1 (codes "0") ≡ Ok 0 = refl in limits_of-text t (codes "0") h (first ∙ ap (λ (n : ℕ). Ok n) (sym told))
+task_operands-text true t h told =
+    let band_high = h.band in limits_of-text t (decimal t.band) h (number_in-decimal 0 1 t.band (omega arith) h.band (omega arith))
 
 plain_literal : IsPlain (codes "fuel") × IsPlain (codes "out") × IsPlain (codes "data") × IsPlain (codes "tail") × IsPlain (codes "quanta")
 plain_literal = (
@@ -77,15 +112,22 @@ plain_literal = (
   record { some = refl; visible = refl },
 )
 
-pub plain_task : (t : TaskText) → IsTaskInRange t → AllByRecursion IsPlain (task_tokens t)
-plain_task t h =
+plain_band : (banded : Bool) (band : ℕ) → band ≤ 1 → AllByRecursion IsPlain (band_text banded band)
+plain_band false band high = tt
+plain_band true band high = (record { some = refl; visible = refl }, (plain_decimal band (omega arith), tt))
+
+pub plain_task : (banded : Bool) (t : TaskText) → IsTaskInRange t → AllByRecursion IsPlain (task_tokens banded t)
+plain_task banded t h =
     let fuel_high = h.fuel_high in
     let out_high = h.out_max in
     let data_high = h.data_len in (
       plain_literal.0,
       (
         plain_decimal t.fuel (omega arith),
-        (plain_literal.1, (plain_decimal t.out_max (omega arith), (plain_literal.2, (plain_decimal t.data_len (omega arith), tt)))),
+        (
+          plain_literal.1,
+          (plain_decimal t.out_max (omega arith), (plain_literal.2, (plain_decimal t.data_len (omega arith), plain_band banded t.band h.band))),
+        ),
       ),
     )
 

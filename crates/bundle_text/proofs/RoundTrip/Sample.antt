@@ -4,8 +4,6 @@ use Rattle.std.specs.Fmt.{digits}
 use Rattle.std.specs.List.{AllByRecursion, list_all}
 use Rattle.std.proofs.lemmas.Bool.{and_parts, ltb-true}
 use Rattle.core_model.specs.declared.event.Event.TheVariants.{Go, Tick}
-use Rattle.core_model.specs.declared.event.EventRun.{EventRun}
-use Rattle.core_model.specs.declared.event.OrderRun.{OrderRun}
 use Rattle.bundle_text.specs.Pieces.{is_text, tokens}
 use Rattle.bundle_text.specs.Lines.{is_endcode}
 use Rattle.bundle_text.specs.Range.{IsTimes, IsWritable, IsInRange, IsTaskInRange, IsCodeLine, IsLineInRange, IsByte}
@@ -13,8 +11,6 @@ use Rattle.bundle_text.specs.Text.{text_of}
 use Rattle.bundle_text.specs.declared.pieces.TheConstants.{CARRIAGE_RETURN}
 use Rattle.bundle_text.specs.declared.bundle.Bundle.{Bundle}
 use Rattle.bundle_text.specs.declared.bundle.TaskText.{TaskText}
-use Rattle.bundle_text.specs.declared.bundle.PlanText.{PlanText}
-use Rattle.core_model.specs.declared.world.World.{World}
 use Rattle.bundle_text.specs.declared.bundle.Code.TheVariants.{Words, Text}
 use Rattle.bundle_text.proofs.RoundTrip.Tokens.{raw_by_test}
 
@@ -27,6 +23,7 @@ words_task = record {
   fuel = 100000;
   out_max = 4096;
   data_len = 1024;
+  band = 0;
   tape = 0xffffffff ∷ 10 ∷ [];
   code = Words (0x13 ∷ 0x0abcdef0 ∷ []);
 }
@@ -36,6 +33,7 @@ text_task = record {
   fuel = 1;
   out_max = 0;
   data_len = 0;
+  band = 0;
   tape = [];
   code = Text 77 (codes "\tli a0,1 # one" ∷ [] ∷ codes "ecall" ∷ []);
 }
@@ -57,6 +55,13 @@ text : text_of sample
     ∷ codes "world 4294967295 00000001 80000000" ∷ codes "world 0 00000000 00000002" ∷ codes "events g0 t7*1048576 g3*2" ∷ codes "order 0*10 1" ∷ [])
 unfolding digits
 text = refl
+
+-- a task of band 1 after one of band 0: each task says its band
+bands : text_of (record { slots = 1; plans = []; tasks = text_task ∷ record words_task { band = 1; tape = [] } ∷ []; worlds = []; events = []; order = [] })
+    ≡ lf (codes "bundle 2" ∷ codes "slots 1" ∷ codes "task fuel 1 out 0 data 0 band 0" ∷ codes "code" ∷ codes "\tli a0,1 # one" ∷ [] ∷ codes "ecall"
+    ∷ codes "endcode" ∷ codes "endtask" ∷ codes "task fuel 100000 out 4096 data 1024 band 1" ∷ codes "words 00000013 0abcdef0" ∷ codes "endtask" ∷ [])
+unfolding digits
+bands = refl
 
 -- nothing but the slots
 least : text_of (record { slots = 1; plans = []; tasks = []; worlds = []; events = []; order = [] }) ≡ lf (codes "bundle 1" ∷ codes "slots 1" ∷ [])
@@ -81,6 +86,7 @@ words_task_range = record {
   fuel_high = omega arith;
   out_max = omega arith;
   data_len = omega arith;
+  band = omega arith;
   tape = (omega arith, (omega arith, tt));
   tape_short = omega arith;
   code = ((omega arith, (omega arith, tt)), omega arith);
@@ -92,6 +98,7 @@ text_task_range = record {
   fuel_high = omega arith;
   out_max = omega arith;
   data_len = omega arith;
+  band = omega arith;
   tape = tt;
   tape_short = omega arith;
   code = (omega arith, (line_range _ refl (omega arith), (line_range _ refl (omega arith), (line_range _ refl (omega arith), tt))));
@@ -138,9 +145,3 @@ sample_writable = record {
   range = sample_range;
   code = (tt, ((code_line _ refl refl refl, (code_line _ refl refl refl, (code_line _ refl refl refl, tt))), tt));
 }
-
--- so does a bundle that is made of the same parts
-pub made_writable : (plans : List PlanText) (tasks : List TaskText) (worlds : List World) (events : List EventRun) (order : List OrderRun)
-    → plans ≡ sample.plans → tasks ≡ sample.tasks → worlds ≡ sample.worlds → events ≡ sample.events → order ≡ sample.order
-    → IsWritable (record { slots = 8; plans = plans; tasks = tasks; worlds = worlds; events = events; order = order })
-made_writable plans tasks worlds events order a b c d e = rw (a, b, c, d, e) sample_writable

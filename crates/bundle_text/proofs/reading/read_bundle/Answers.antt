@@ -3,7 +3,8 @@ use Rattle.std.proofs.Common.{◌≡◌, ◌≢◌, ◌<◌, ◌-◌, ◌^◌, �
 use Rattle.bundle_text.specs.Answer.{IsRefusal, Answers}
 use Rattle.bundle_text.specs.Pieces.{lines}
 use Rattle.bundle_text.specs.Lines.{bundle_of}
-use Rattle.bundle_text.specs.Form.{Reads, Breaks}
+use Rattle.bundle_text.specs.Form.{Breaks}
+use Rattle.bundle_text.specs.Grammar.{Reads}
 use Rattle.bundle_text.specs.Range.{IsInRange}
 use Rattle.bundle_text.specs.declared.bundle.Bundle.{Bundle}
 use Rattle.bundle_text.specs.declared.bundle.BundleFault.{BundleFault}
@@ -11,6 +12,7 @@ use Rattle.bundle_text.specs.declared.bundle.BundleKind.{BundleKind}
 use Rattle.bundle_text.specs.declared.bundle.BundleKind.TheVariants.{NotText, UnknownWord, Misplaced, Operands, BadNumber, OutOfRange, Repeated, Missing, Memory}
 use Rattle.bundle_text.proofs.LineLaws.{lines_are_of_form}
 use Rattle.bundle_text.proofs.DraftRanges.{bundle_range}
+use Rattle.bundle_text.proofs.Grammar.Sections.{sections_are}
 use Rattle.bundle_text.proofs.reading.read_bundle.Goals as goal
 
 range_of : (bytes : List ℕ) (r : Result Bundle BundleFault) → length bytes < 2 ^ 32 - 1 → Answers r (bundle_of bytes) → IfOk r IsInRange
@@ -21,7 +23,7 @@ pub returns-clause-range : goal.returns-clause-range
 returns-clause-range c = range_of c.args.bytes.now c.read_lines.result c.requires.length c.read_lines.ensures.decision
 
 reads_of : (bytes : List ℕ) (r : Result Bundle BundleFault) → Answers r (bundle_of bytes) → IfOk r (λ bundle. Reads bytes bundle)
-reads_of bytes (Ok b) h = record { text = lines bytes; text_is = lines_are_of_form bytes; says = h }
+reads_of bytes (Ok b) h = record { text = lines bytes; text_is = lines_are_of_form bytes; bundle_is = sections_are (lines bytes) b h }
 reads_of bytes (Err fault) h = tt
 
 pub returns-clause-read : goal.returns-clause-read

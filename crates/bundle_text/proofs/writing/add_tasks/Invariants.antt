@@ -5,4 +5,4 @@ use Rattle.bundle_text.specs.Text.{task_text}
 use Rattle.bundle_text.proofs.writing.add_tasks.Given as goal
 
 abbrev pub invariant-loop-task : goal.invariant-loop-task
-invariant-loop-task l = l.out.items ++ flat_map task_text (drop l.task-index l.tasks) ≡ l.initial.out.items ++ flat_map task_text l.tasks
+invariant-loop-task l = l.out.items ++ flat_map (task_text l.has_bands) (drop l.task-index l.tasks) ≡ l.initial.out.items ++ flat_map (task_text l.has_bands) l.tasks

@@ -1,5 +1,5 @@
 -- The sums are small, so no step wraps.
-use Rattle.std.proofs.Common.{◌≡◌, length, arith}
+use Rattle.std.proofs.Common.{arith}
 use Rattle.rv_loader.proofs.Counts.{sums_are_small}
 use Rattle.rv_loader.proofs.limits.bound_of.Goals as goal
 
