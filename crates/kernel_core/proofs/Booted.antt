@@ -55,6 +55,12 @@ all-valid [] each = tt
 all-valid (task ∷ tasks) each = (each 0 task refl, all-valid tasks (λ i other is. each (suc i) other is))
 
 module _ (loaded : Loaded) (is : IsLoaded loaded) where
+  -- a band for each body, 0 or 1
+  pub bands-each : (bodies : List BodyState) (bands : List ℕ) → bodies ≡ bodies_from 0 loaded.tasks → bands ≡ loaded.bands → length bands ≡ length bodies
+  bands-each bodies bands bodies_are bands_are =
+      ap (λ (xs : List ℕ). length xs) bands_are ∙ is.limits.band_each
+      ∙ sym (ap (λ (bs : List BodyState). length bs) bodies_are ∙ bodies-length 0 loaded.tasks)
+
   pub tasks-valid : (k : KernelParts) → IsKernel k → (tasks : List Task) → tasks ≡ loaded.tasks → AllByRecursion IsValidTask tasks
   tasks-valid k kernel tasks same =
       subst (λ (ts : List Task). AllByRecursion IsValidTask ts) (sym same)
@@ -72,21 +78,21 @@ module _ (loaded : Loaded) (is : IsLoaded loaded) where
 
   -- a board and harts at boot are a core that is kept
   pub run-kept : (k : KernelParts) → IsKernel k → (board : BoardWithSpare) (harts : List HartState) (actions : ℕ)
-      → board.lists ≡ boot_board loaded.slots (bodies_from 0 loaded.tasks) → harts ≡ harts_from 0 loaded.harts k.code.take → actions + beyond ≤ board.spare
+      → board.lists ≡ boot_board loaded.slots (bodies_from 0 loaded.tasks) loaded.bands → harts ≡ harts_from 0 loaded.harts k.code.take → actions + beyond ≤ board.spare
       → IsRunKept loaded (record { board = board; harts = harts; kernel = k; actions = actions })
   run-kept k kernel board harts actions lists same room = record {
     is_loaded = is;
     is_kernel = kernel;
     kept = (
         let B : BoardState → Type 0 = λ b. IsCoreKept k loaded (record { board = b; harts = harts; log = [] }) in
-        let H : List HartState → Type 0 = λ hs. IsCoreKept k loaded (record { board = boot_board loaded.slots (bodies_from 0 loaded.tasks); harts = hs; log = [] }) in
+        let H : List HartState → Type 0 = λ hs. IsCoreKept k loaded (record { board = boot_board loaded.slots (bodies_from 0 loaded.tasks) loaded.bands; harts = hs; log = [] }) in
         subst B (sym lists) (subst H (sym same) (boot-kept k loaded is (kernel-harts k kernel loaded is))));
     room = omega (arith, room);
   }
 
 -- a core with such a board and such harts, and with nothing counted, was told nothing yet
 pub told-boot : {K : Type 0} (loaded : Loaded) (k : KernelParts) (c : CoreValue K) → IsLoaded loaded → IsWholeKernel k → c.run.kernel ≡ k → c.tasks ≡ length loaded.tasks
-    → c.run.board.lists ≡ boot_board loaded.slots (bodies_from 0 loaded.tasks) → c.run.harts ≡ harts_from 0 loaded.harts k.code.take → c.log.tally ≡ counts_of []
+    → c.run.board.lists ≡ boot_board loaded.slots (bodies_from 0 loaded.tasks) loaded.bands → c.run.harts ≡ harts_from 0 loaded.harts k.code.take → c.log.tally ≡ counts_of []
     → IsCoreOf (history_at_boot loaded k) c
 unfolding core_from
 told-boot loaded k c is_loaded is_kernel kernel tasks board harts counts =

@@ -1,5 +1,5 @@
 -- A core that is told one event more.
-use Rattle.std.proofs.Common.{◌≡◌, ℕ, List, [], ◌∷◌, ◌++◌, slice_get, Option, Some, None, refl, sym, ap, subst, ◌∙◌, append-nil}
+use Rattle.std.proofs.Common.{◌≡◌, ℕ, List, [], ◌++◌, slice_get, Option, Some, None, refl, sym, ap, subst, ◌∙◌, append-nil}
 use Rattle.isa_model.specs.declared.ends.End.{End}
 use Rattle.hart_model.specs.declared.calls.QueueCall.TheVariants.{Take, GiveReady, GiveDone}
 use Rattle.hart_model.specs.declared.probe.Probe.{Probe}
@@ -11,11 +11,13 @@ use Rattle.hart_model.specs.HartStep.{hart_step}
 use Rattle.core_model.specs.declared.event.Event.{Event}
 use Rattle.core_model.specs.declared.event.Event.TheVariants.{Go, Tick}
 use Rattle.core_model.specs.Board.{BoardState}
+use Rattle.core_model.specs.Loaded.{IsLoaded}
 use Rattle.core_model.specs.Core.{CoreState, CoreAndAction, event_result, after_event, after_go, after_step, after_call, after_give_done, after_tick, without_action}
 use Rattle.core_invariant.proofs.Events.{core-more}
 use Rattle.core_invariant.proofs.FromHarts.{stays-sound, outputs-stay, one-home-each}
 use Rattle.core_invariant.proofs.Proved.{kernel-harts}
 use Rattle.probe_log.specs.Counts.{StandFor}
+use Rattle.kernel_core.specs.Kernels.{IsWholeKernel}
 use Rattle.kernel_core.specs.Running.{IsAfterEvent, core_of_run, event_on, entries_of}
 use Rattle.kernel_core.specs.History.{History, CoreValue, IsCoreOf, IsSoundCore, given, core_of}
 
@@ -73,13 +75,23 @@ module _ {K : Type 0} (t : History) (event : Event) (c after : CoreValue K) (is 
   as-run : record (core_of t) { log = [] } ≡ core_of_run c.run
   as-run = sym (ap (λ (b : BoardState). record { board = b; harts = c.run.harts; log = [] }) is.board ∙ ap (λ (hs : List HartState). record { board = (core_of t).board; harts = hs; log = [] }) is.harts)
 
-  next-core : core_of (given t event) ≡ after_event t.kernel.code.words (core_of t) event
+  pub next-core : core_of (given t event) ≡ after_event t.kernel.code.words (core_of t) event
   next-core = core-more t.kernel.code.words _ t.events event
 
   event-is : event_result t.kernel.code.words (record (core_of t) { log = [] }) event ≡ event_on c.run event
   event-is =
       ap (λ (x : CoreState). event_result t.kernel.code.words x event) as-run
       ∙ ap (λ k. event_result k.code.words (core_of_run c.run) event) (sym is.kernel)
+
+  -- its entries are at the end of the log, and it makes the action
+  pub entries-told : (core_of t).log ++ entries_of c.run event ≡ (core_of (given t event)).log
+  entries-told =
+      ap (λ (x : CoreAndAction). (core_of t).log ++ x.core.log) (sym event-is)
+      ∙ sym (event-same t.kernel.code.words (core_of t) event).log_is
+      ∙ sym (ap (λ (x : CoreState). x.log) next-core)
+
+  pub action-told : (event_on c.run event).action ≡ (event_result t.kernel.code.words (core_of t) event).action
+  action-told = ap (λ (x : CoreAndAction). x.action) (sym event-is) ∙ sym (event-same t.kernel.code.words (core_of t) event).action_is
 
   pub told-more : IsAfterEvent c.run after.run event → after.tasks ≡ c.tasks
       → ((log : List Probe) → StandFor c.log.tally log → StandFor after.log.tally (log ++ entries_of c.run event)) → IsCoreOf (given t event) after
@@ -88,8 +100,6 @@ module _ {K : Type 0} (t : History) (event : Event) (c after : CoreValue K) (is 
       let B : CoreState → BoardState = λ x. x.board in
       let H : CoreState → List HartState = λ x. x.harts in
       let L : List Probe → Type 0 = λ log. StandFor after.log.tally log in
-      let entries : (core_of t).log ++ entries_of c.run event ≡ (core_of (given t event)).log =
-      ap (λ (x : CoreAndAction). (core_of t).log ++ x.core.log) (sym event-is) ∙ sym same.log_is ∙ sym (ap (λ (x : CoreState). x.log) next-core) in
       record {
         is_loaded = is.is_loaded;
         is_kernel = is.is_kernel;
@@ -97,13 +107,13 @@ module _ {K : Type 0} (t : History) (event : Event) (c after : CoreValue K) (is 
         tasks = tasks ∙ is.tasks;
         board = run.board ∙ sym (ap (λ (x : CoreAndAction). x.core.board) event-is) ∙ sym same.board ∙ sym (ap B next-core);
         harts = run.harts ∙ sym (ap (λ (x : CoreAndAction). x.core.harts) event-is) ∙ sym same.harts ∙ sym (ap H next-core);
-        counts = subst L entries (logs (core_of t).log is.counts);
+        counts = subst L entries-told (logs (core_of t).log is.counts);
       }
 
-  -- and it is sound
-  pub told-sound : IsSoundCore (given t event)
-  told-sound = record {
-    sound = stays-sound kernel-harts t.kernel is.is_kernel.kernel t.loaded is.is_loaded (t.events ++ event ∷ []);
-    homes = one-home-each kernel-harts t.kernel is.is_kernel.kernel t.loaded is.is_loaded (t.events ++ event ∷ []);
-    outputs = outputs-stay kernel-harts t.kernel is.is_kernel.kernel t.loaded is.is_loaded (t.events ++ event ∷ []);
-  }
+-- It is sound, whatever it was told.
+pub sound-so : (t : History) → IsLoaded t.loaded → IsWholeKernel t.kernel → IsSoundCore t
+sound-so t is_loaded is_kernel = record {
+  sound = stays-sound kernel-harts t.kernel is_kernel.kernel t.loaded is_loaded t.events;
+  homes = one-home-each kernel-harts t.kernel is_kernel.kernel t.loaded is_loaded t.events;
+  outputs = outputs-stay kernel-harts t.kernel is_kernel.kernel t.loaded is_loaded t.events;
+}

@@ -2,7 +2,16 @@ pub mod LinkedKernel
 pub mod Wanted
 pub mod RunFacts
 pub mod RunAfter
+pub mod PacedGo
+pub mod PacedRunAfter
 pub mod HistoryMore
+pub mod SteppedMore
+pub mod PacedHistoryMore
+pub mod PacedSeats
+pub mod QuietSteps
+pub mod PacedOrders
+pub mod PacedSteps
+pub mod ToAction
 pub mod Counting
 pub mod Booted
 pub mod Reported

@@ -1,5 +1,5 @@
 -- What a core was told, and what it is then (this project's own).
-use Rattle.std.specs.Prelude.{◌≡◌, ℕ, List, [], ◌∷◌, ◌++◌, length}
+use Rattle.std.specs.Prelude.{◌≡◌, ℕ, Bool, List, [], ◌∷◌, ◌++◌, length}
 use Rattle.core_model.specs.declared.event.Event.{Event}
 use Rattle.core_model.specs.declared.loaded.Loaded.{Loaded}
 use Rattle.core_model.specs.Core.{CoreState, core_after}
@@ -12,6 +12,7 @@ use Rattle.probe_log.specs.Counts.{StandFor}
 use Rattle.kernel_core.specs.Counted.{CountedValue}
 use Rattle.kernel_core.specs.Kernels.{IsWholeKernel}
 use Rattle.kernel_core.specs.Running.{RunValue}
+use Rattle.kernel_core.specs.Seats.{SeatValue}
 
 -- the bundle, the kernel, and the events so far
 pub record History : Type 0 where
@@ -30,11 +31,14 @@ given t event = record t { events = t.events ++ event ∷ [] }
 abbrev pub core_of : History → CoreState
 core_of t = core_after t.loaded t.kernel.code t.events
 
--- a core, how many tasks it has, and its keeper with the counts
+-- a core, how many tasks it has, its keeper with the counts, what it keeps beside each hart, and whether it was told nothing that doesn't go by
+-- the plans
 pub record CoreValue (K : Type 0) : Type 0 where
   pub run : RunValue
   pub tasks : ℕ
   pub log : CountedValue K
+  pub seats : List SeatValue
+  pub is_paced : Bool
 
 -- It is that of what was told, and the counts are those of its log.
 pub record IsCoreOf {K : Type 0} (t : History) (c : CoreValue K) : Type 0 where

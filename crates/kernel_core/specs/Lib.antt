@@ -1,7 +1,11 @@
 pub mod Kernels
 pub mod Counted
 pub mod Running
+pub mod PacedRun
 pub mod BoardStep
+pub mod Seats
 pub mod History
+pub mod PacedHistory
 pub mod Snapshots
 pub mod SnapshotNow
+pub mod Laws

@@ -4,6 +4,7 @@ use Rattle.hart_model.specs.Context.{BodyState, ContextState, DoneState}
 use Rattle.hart_model.specs.HartState.{HartState}
 use Rattle.core_model.specs.declared.home.Home.{Home}
 use Rattle.core_model.specs.declared.home.Home.TheVariants.{Waiting, Slot, Hart, Ended}
+use Rattle.core_model.specs.Board.{all_ready}
 use Rattle.core_model.specs.Homes.{home_of}
 use Rattle.core_model.specs.Core.{CoreState}
 use Rattle.probe_log.specs.Counts.{counts_of}
@@ -38,7 +39,7 @@ state_of_done (Some d) = ended_state d
 abbrev pub state_at : CoreState → ℕ → Option Home → TaskState
 state_at c task None = waiting_state
 state_at c task (Some Waiting) = waiting_state
-state_at c task (Some (Slot slot)) = state_of_context (Slot slot) (find (λ context. context.body.task_no == task) c.board.ready)
+state_at c task (Some (Slot slot)) = state_of_context (Slot slot) (find (λ context. context.body.task_no == task) (all_ready c.board.ready))
 state_at c task (Some (Hart hart slot)) = state_of_context (Hart hart slot) (held_by (slice_get c.harts hart))
 state_at c task (Some Ended) = state_of_done (find (λ done. done.task_no == task) c.board.ended)
 

@@ -1,23 +1,28 @@
 //! A core at boot.
 
-ghost use Rattle.std.specs.Prelude.{◌≡◌, ◌≤◌, ◌%◌, [], length, IfOk};
+ghost use Rattle.std.specs.Prelude.{◌≡◌, ◌≤◌, ◌%◌, [], length, map, IfOk};
 ghost use Rattle.std.specs.List.{AllByRecursion};
 ghost use Rattle.isa_model.specs.TaskPlaces.{IsValidTask};
+ghost use Rattle.core_model.specs.Board.{boot_board};
 ghost use Rattle.core_model.specs.Core.{bodies_from, harts_from};
 ghost use Rattle.core_model.specs.Loaded.{IsLoaded};
 ghost use Rattle.core_invariant.specs.KernelStates.{emitted_parts};
 ghost use Rattle.kernel_core.specs.History.{IsCoreOf, history_at_boot};
+ghost use Rattle.kernel_core.specs.Seats.{boot_seat};
+ghost use Rattle.kernel_core.specs.PacedHistory.{IsPacedCoreOf, paced_at_boot};
 
 use crate::counted::Counted;
 use crate::kernel::Kernel;
 use crate::run::Run;
+use crate::seat::Seat;
 use crate::whole_core::Core;
-use core_model::Loaded;
+use core_model::{Loaded, Plan};
 use hart_state::Hart;
 use isa_model::Task;
 use probe_log::Keeper;
 use ready_queue::{Board, Body};
 use std::alloc::{AllocError, Global};
+use timer_plan::Pace;
 
 /// How many actions more than it is booted for a core's order has room for: takes ask for it.
 const BEYOND: u64 = 10;
@@ -54,6 +59,33 @@ fn harts(alloc: Global, count: u32, take: u32) -> Result<Vec<Hart>, AllocError>
     Ok(harts)
 }
 
+/// The seats of harts at boot: each has the pace of its plan.
+fn seats(alloc: Global, plans: &[Plan]) -> Result<Vec<Seat>, AllocError>
+    ensures seats { IfOk result (λ seats. seats.items ≡ map boot_seat plans.now) }
+{
+    let mut seats = Vec::new(alloc);
+    let mut rest = plans;
+    while let [first, others @ ..] = rest {
+        let pace = Pace::new(first.copy(alloc)?);
+        seats.push(Seat {
+            pace,
+            stopped: false,
+        })?;
+        rest = others;
+    }
+    Ok(seats)
+}
+
+/// The board of a loaded bundle at boot. `AllocError` is want of memory.
+pub fn board_at_boot(alloc: Global, loaded: &Loaded) -> Result<Board, AllocError>
+    requires loaded { IsLoaded loaded.now }
+    ensures lists { IfOk result (λ board. board.lists ≡ boot_board loaded.now.slots (bodies_from 0 loaded.now.tasks) loaded.now.bands) }
+{
+    let bodies = bodies(alloc, loaded.tasks.as_slice())?;
+    let bands = Vec::from_slice(alloc, loaded.bands.as_slice())?;
+    Board::boot(alloc, loaded.slots, bodies, bands)
+}
+
 impl<K: Keeper> Core<K> {
     /// A core at boot, whose harts execute this kernel, with room for so many queue actions. Nothing after this takes memory. The keeper is
     /// kept as it is. `AllocError` is want of memory.
@@ -66,16 +98,17 @@ impl<K: Keeper> Core<K> {
     ) -> Result<Core<K>, AllocError>
         requires loaded { IsLoaded loaded.now }
         ensures told { IfOk result (λ core. IsCoreOf (history_at_boot loaded.now kernel) core) }
+        ensures paced { IfOk result (λ core. IsPacedCoreOf (paced_at_boot loaded.now kernel) core) }
         ensures keeper { IfOk result (λ core. core.log.keeper ≡ keeper) }
         ensures actions { IfOk result (λ core. core.run.actions ≡ actions) }
     {
         if actions > u64::MAX - BEYOND {
             return Err(AllocError);
         }
-        let bodies = bodies(alloc, loaded.tasks.as_slice())?;
-        let mut board = Board::boot(alloc, loaded.slots, bodies)?;
+        let mut board = board_at_boot(alloc, loaded)?;
         board.reserve(actions + BEYOND)?;
         let harts = harts(alloc, loaded.harts, kernel.code().take)?;
+        let seats = seats(alloc, loaded.plans.as_slice())?;
         Ok(Core {
             run: Run {
                 board,
@@ -85,6 +118,8 @@ impl<K: Keeper> Core<K> {
             },
             tasks: loaded.tasks.len() as u32,
             log: Counted::new(keeper),
+            seats,
+            is_paced: true,
         })
     }
 
@@ -97,6 +132,7 @@ impl<K: Keeper> Core<K> {
     ) -> Result<Core<K>, AllocError>
         requires loaded { IsLoaded loaded.now }
         ensures told { IfOk result (λ core. IsCoreOf (history_at_boot loaded.now emitted_parts) core) }
+        ensures paced { IfOk result (λ core. IsPacedCoreOf (paced_at_boot loaded.now emitted_parts) core) }
         ensures keeper { IfOk result (λ core. core.log.keeper ≡ keeper) }
         ensures actions { IfOk result (λ core. core.run.actions ≡ actions) }
     {

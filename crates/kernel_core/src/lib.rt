@@ -5,11 +5,16 @@ mod board_step;
 mod boot;
 mod counted;
 mod kernel;
+pub mod laws;
+pub mod queue_action;
 mod reporting;
 mod run;
+mod seat;
 pub mod snapshot;
 mod whole_core;
 
+pub use boot::board_at_boot;
 pub use kernel::Kernel;
+pub use reporting::snapshot_of_parts;
 pub use snapshot::{Snapshot, TaskState};
 pub use whole_core::Core;

@@ -1,18 +1,22 @@
 //! A board and harts, event by event.
 
-ghost use Rattle.std.specs.Prelude.{◌≡◌, ◌≤◌, ◌<◌, ◌+◌, ◌++◌, List, length};
+ghost use Rattle.std.specs.Prelude.{◌≡◌, ◌≤◌, ◌<◌, ◌+◌, ◌++◌, List, length, slice_get};
 ghost use Rattle.hart_model.specs.declared.probe.Probe.{Probe as LogEntry};
 ghost use Rattle.core_model.specs.declared.event.Event.TheVariants as events;
 ghost use Rattle.core_model.specs.Events.{hart_of};
+ghost use Rattle.core_model.specs.declared.plan.Plan.{Plan as HartPlan};
+ghost use Rattle.core_model.specs.Orders.{HartPace, count_on, pace_after};
 ghost use Rattle.kernel_core.specs.Running.{IsAfterEvent, event_on, entries_of};
+ghost use Rattle.kernel_core.specs.PacedRun.{IsPaceIn, ticked_run};
 
-use crate::board_step::go;
+use crate::board_step::{go, go_paced};
 use crate::kernel::Kernel;
 use core_model::{Action, Event};
 use hart_state::Hart;
 use probe_log::Keeper;
 use ready_queue::Board;
 use std::marker::Model;
+use timer_plan::Pace;
 
 /// A board with the harts that take from it and give to it, the kernel that they execute, and how many queue actions there may be.
 #[derive(Debug, Drop)]
@@ -48,6 +52,34 @@ impl Run {
         let code = self.kernel.code().words.as_slice();
         let hart = &mut self.harts[number as usize];
         go(&mut self.board, hart, number, code, keeper)
+    }
+
+    /// A step of the hart of this number under its plan, with the tick before it where the plan has one there.
+    pub(crate) fn go_paced<K: Keeper>(
+        &mut self,
+        number: u32,
+        pace: &mut Pace,
+        keeper: &mut K,
+    ) -> Option<Action>
+        requires hart { number < length self.old.harts }
+        requires paced { (plan : HartPlan) × (progress : HartPace) × IsPaceIn self.old number plan progress pace.old }
+        requires actions { length self.old.board.lists.order < self.old.actions }
+        requires room { 6 ≤ K.room_of keeper.old }
+        ensures after { (plan : HartPlan) (progress : HartPace) → IsPaceIn self.old number plan progress pace.old
+            → IsAfterEvent (ticked_run plan progress number self.old) self.new (events.Go number) }
+        ensures action { (plan : HartPlan) (progress : HartPace) → IsPaceIn self.old number plan progress pace.old
+            → result ≡ (event_on (ticked_run plan progress number self.old) (events.Go number)).action }
+        ensures pace { (plan : HartPlan) (progress : HartPace) → IsPaceIn self.old number plan progress pace.old
+            → IsPaceIn self.new number plan (pace_after progress (count_on (slice_get self.new.harts number)) result) pace.new }
+        ensures log { (plan : HartPlan) (progress : HartPace) → IsPaceIn self.old number plan progress pace.old
+            → (log : List LogEntry) → K.stands keeper.old log
+            → K.stands keeper.new (log ++ entries_of (ticked_run plan progress number self.old) (events.Go number)) }
+        ensures room { (plan : HartPlan) (progress : HartPace) → IsPaceIn self.old number plan progress pace.old
+            → K.room_of keeper.new + length (entries_of (ticked_run plan progress number self.old) (events.Go number)) ≡ K.room_of keeper.old }
+    {
+        let code = self.kernel.code().words.as_slice();
+        let hart = &mut self.harts[number as usize];
+        go_paced(&mut self.board, hart, pace, number, code, keeper)
     }
 
     /// The timer of the hart of this number becomes pending.

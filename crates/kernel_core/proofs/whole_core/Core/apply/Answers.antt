@@ -2,19 +2,25 @@
 use Rattle.std.proofs.Common.{◌++◌, ◌∷◌, refl, sym, subst}
 use Rattle.kernel_core.specs.Counted.{of_counts, of_keeper}
 use Rattle.kernel_core.specs.Running.{entries_of}
-use Rattle.kernel_core.specs.History.{CoreValue, IsCoreOf}
-use Rattle.kernel_core.proofs.HistoryMore.{told-more, told-sound}
+use Rattle.kernel_core.specs.History.{CoreValue, IsCoreOf, given}
+use Rattle.kernel_core.proofs.HistoryMore.{told-more, sound-so}
 use Rattle.kernel_core.proofs.whole_core.Core.apply.Goals as goal
 
 pub returns-clause-told : goal.returns-clause-told
 returns-clause-told g c t is =
-    let old : CoreValue g.row.K.Denot = record { run = c.self.inside.run; tasks = c.self.inside.tasks; log = c.self.inside.log } in
+    let old : CoreValue g.row.K.Denot = record {
+      run = c.self.inside.run;
+      tasks = c.self.inside.tasks;
+      log = c.self.inside.log;
+      seats = c.self.inside.seats.items;
+      is_paced = c.self.inside.is_paced;
+    } in
     let I : CoreValue g.row.K.Denot → Type 0 = λ v. IsCoreOf t v in
     told-more t c.args.event old _ (subst I (sym c.self.view_is) is) c.apply.ensures.after refl
     (λ log stood. c.apply.ensures.log (of_counts ∷ log) stood)
 
 pub returns-clause-sound : goal.returns-clause-sound
-returns-clause-sound g c t is = told-sound t c.args.event c.args.self.now c.args.self.now is
+returns-clause-sound g c t is = sound-so (given t c.args.event) is.is_loaded is.is_kernel
 
 pub returns-clause-keeper : goal.returns-clause-keeper
 returns-clause-keeper g c before stood =
