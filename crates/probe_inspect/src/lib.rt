@@ -1,8 +1,20 @@
-//! What an entry of the log says of a task: the values of the task's undisturbed run that its why names.
+//! What an entry of the log says of a task: the values of the task's undisturbed run that its why names. And the verdict on a task in the
+//! worlds of its secret: whether its undisturbed runs tell anything of it.
 #![tactic(auto)]
 
+pub mod certifying;
+mod columns;
+mod course;
+mod effects;
+mod groups;
+mod latch_list;
+mod rows;
 pub mod shown;
+mod table;
 
+pub use certifying::certify;
+pub use core_model::World;
 pub use hart_model::{Probe, Side, Why};
 pub use isa_model::{Latch, Task, Words};
+pub use probing_laws::{CertFault, Verdict};
 pub use shown::{Shown, explain};

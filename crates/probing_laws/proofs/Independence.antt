@@ -8,7 +8,7 @@ use Rattle.isa_model.specs.AloneValue.{alone_value, alone_change}
 use Rattle.core_model.specs.declared.world.World.{World}
 use Rattle.core_model.specs.Security.{task_in, count_in, changes_so, same_pair}
 use Rattle.core_model.specs.Places.{is_written}
-use Rattle.probing_laws.specs.Verdicts.{IsIndependentAt}
+use Rattle.probing_laws.specs.Verdicts.{IsEven, IsIndependentAt}
 use Rattle.probing_laws.specs.Laws.{WrittenPlacesDecide}
 use Rattle.probing_laws.proofs.Counts.{IsEquality, equal-in, pairs-equal, same_both, both-equal}
 use Rattle.probing_laws.proofs.Transfers.{count_in-agree}
@@ -106,6 +106,19 @@ module _ (T : Task) (worlds : List World) (a b : ℕ) (even : count_in worlds a 
           → IsLooked T worlds a b same_nothing nothing-equal nothing (λ x. even) k j
       looked k j (inl none) = inl none
       looked k j (inr alone) = inr (to_beside k j alone)
+
+  -- a latch that no world writes, where all changes before are alike
+  unwritten-alone : (n : ℕ) (l : Latch) → ((m : ℕ) (k : Latch) → m < n → IsAlone m k)
+      → All (λ world. is_written (task_in T world) n l ≡ false) worlds → IsAlone n l
+  unwritten-alone n l before none =
+      from_beside n l (unwritten-same T worlds a b same_nothing nothing-equal nothing (λ x. even) n l (λ m k low. to_beside m k (before m k low)) none)
+
+-- A latch that an instruction doesn't write in any world changes there independently of the secret, if all earlier changes are so.
+pub unwritten-independent : (T : Task) (worlds : List World) → IsEven worlds → (n : ℕ) (l : Latch)
+    → ((m : ℕ) (k : Latch) → m < n → IsIndependentAt T worlds m k) → All (λ world. is_written (task_in T world) n l ≡ false) worlds
+    → IsIndependentAt T worlds n l
+unwritten-independent T worlds even n l before none change a b one two =
+    unwritten-alone T worlds a b (even a b one two) n l (λ m k low other. before m k low other a b one two) none change
 
 pub places-decide : WrittenPlacesDecide
 places-decide T worlds even n each m l low change a b one two =

@@ -43,6 +43,7 @@ worlds-alike loaded t T v w words course = record {
   harts = refl;
   slots = refl;
   plans = refl;
+  bands = refl;
   tasks = pairwise-set AreTasksAlike loaded.tasks loaded.tasks t (task_in T v) (task_in T w)
       (pairwise-same AreTasksAlike same_task loaded.tasks) (tasks-alike T v w words course);
 }
@@ -114,6 +115,8 @@ module _ (loaded : Loaded) (fits : IsLoaded loaded) (t : ℕ) (T : Task) (is_tas
       tasks_low = let low = fits.limits.tasks_low in omega (arith, how_many, low);
       tasks_high = let high = fits.limits.tasks_high in omega (arith, how_many, high);
       tasks = at_places;
+      band_each = fits.limits.band_each ∙ sym how_many;
+      bands = fits.limits.bands;
       worlds_high = fits.limits.worlds_high;
       worlds = fits.limits.worlds;
       worlds_as_long = fits.limits.worlds_as_long;

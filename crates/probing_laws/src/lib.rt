@@ -4,9 +4,11 @@
 //! (`Counts`, `Transfers`).
 #![tactic(auto)]
 
+pub mod cores;
 pub mod laws;
 pub mod verdict;
 
+pub use cores::{transfer, two_worlds};
 pub use laws::{
     courses_are_seen, security_by_two_transfers, security_transfers, two_worlds_agree,
     verdicts_are_exact, written_places_decide,
