@@ -5,6 +5,7 @@ use Rattle.std.specs.List.{AllByRecursion}
 use Rattle.hart_model.specs.Context.{ContextState, DoneState}
 use Rattle.core_model.specs.declared.home.Home.{Home}
 use Rattle.core_model.specs.declared.home.Home.TheVariants.{Waiting, Slot, Hart, Ended}
+use Rattle.core_model.specs.Board.{all_ready}
 use Rattle.core_model.specs.Homes.{home_of}
 use Rattle.core_model.specs.Core.{CoreState}
 use Rattle.kernel_core.specs.Snapshots.{waiting_state, state_of_context, held_by, state_of_done, state_at, states_from, snapshot_of}
@@ -27,7 +28,7 @@ state_ends : (c : CoreState) (task : ℕ) (o : Option Home) → EndsAtHome (stat
 state_ends c task None = waiting_ends
 state_ends c task (Some Waiting) = waiting_ends
 state_ends c task (Some (Slot slot)) =
-    context_ends (Slot slot) (find (λ context. context.body.task_no == task) c.board.ready) (λ same. cc)
+    context_ends (Slot slot) (find (λ context. context.body.task_no == task) (all_ready c.board.ready)) (λ same. cc)
 state_ends c task (Some (Hart hart slot)) = context_ends (Hart hart slot) (held_by (slice_get c.harts hart)) (λ same. cc)
 state_ends c task (Some Ended) = done_ends (find (λ done. done.task_no == task) c.board.ended)
 

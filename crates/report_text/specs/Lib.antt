@@ -4,3 +4,4 @@ pub mod AsmListing
 pub mod Listing
 pub mod Explanations
 pub mod Report
+pub mod VerdictText

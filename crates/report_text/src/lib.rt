@@ -8,9 +8,11 @@ mod explanations;
 mod log_listing;
 mod snapshot_report;
 mod texts;
+mod verdicts;
 
 pub use alone::alone_report;
 pub use asm_listing::asm_text;
 pub use explanations::explain_text;
 pub use log_listing::listing;
 pub use snapshot_report::{order_line, report};
+pub use verdicts::{cert_fault_text, verdict_text};

@@ -1,0 +1,5 @@
+mod Digits
+mod RunsOnce
+mod OrderOnce
+-- Examples.
+mod TryOrders

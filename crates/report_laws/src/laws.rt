@@ -1,0 +1,9 @@
+//! Laws of reports: each is the contract of a function that does nothing.
+
+ghost use Rattle.report_laws.specs.Laws.{ReportsTellOrders};
+
+/// A report spells its order in one way only: two snapshots that have the same report name the same harts in the same order, one for each
+/// queue action. Each hart's number is a byte, and there are fewer than 2^64 queue actions.
+pub fn reports_tell_orders()
+    ensures orders { ReportsTellOrders }
+{}

@@ -1,0 +1,7 @@
+//! What a report tells. The definition is in `specs/`, the proof in `proofs/`: where decimal digits end (`Digits`), that the text of runs is
+//! that of one list of runs (`RunsOnce`), and that a report is that of one order (`OrderOnce`).
+#![tactic(auto)]
+
+pub mod laws;
+
+pub use laws::reports_tell_orders;
