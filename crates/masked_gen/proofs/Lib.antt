@@ -1,0 +1,4 @@
+pub mod DrawLemmas
+pub mod Lines
+pub mod Writable
+mod TrySeeds

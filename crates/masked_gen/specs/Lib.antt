@@ -1,0 +1,4 @@
+pub mod Draws
+pub mod Code
+pub mod Generator
+pub mod Chain
