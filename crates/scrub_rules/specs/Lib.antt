@@ -1,0 +1,5 @@
+pub mod View
+pub mod Parts
+pub mod Division
+pub mod Broken
+pub mod Laws
