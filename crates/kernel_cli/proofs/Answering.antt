@@ -1,48 +1,94 @@
--- What the top call promises where the input is too large, and where it has an answer.
-use Rattle.std.proofs.Common.{◌≡◌, ◌≢◌, ◌⊎◌, ◌∙◌, ℕ, ◌+◌, ◌<◌, ◌≤◌, List, length, replicate, Option, Some, None, refl, sym, ap, inl, inr, subst, lit<}
+-- What the top call promises where the input is too large, where it is refused, and where it has an answer.
+use Rattle.std.proofs.Common.{◌≡◌, ◌≢◌, ◌⊎◌, ◌∙◌, ℕ, ◌+◌, ◌<◌, ◌≤◌, true, false, List, [], length, replicate, Option, Some, None, Result, Ok, Err, refl, sym, ap, inl, inr, subst, arith, lit<}
 use Rattle.std.proofs.lemmas.Bool.{lt-ltb, le-ltb}
 use Rattle.std.proofs.lemmas.List.{length-replicate}
 use Rattle.std.specs.Io.KnownBytes.{Appends, IsAtEnd}
-use Rattle.io_edge.specs.Causes.{ConsumesAtMost}
-use Rattle.kernel_cli.specs.declared.command.Command.{Command}
-use Rattle.kernel_cli.specs.declared.status.Status.{Status}
-use Rattle.kernel_cli.specs.declared.status.Status.TheVariants.{Fine, BadWords, BadInput, ReadFault, WriteFault, Memory, LogFull}
+use Rattle.io_edge.specs.Causes.{Rose, ConsumesAtMost}
+use Rattle.core_model.specs.declared.loaded.Loaded.{Loaded}
 use Rattle.bundle_text.specs.Lines.{bundle_of}
+use Rattle.bundle_text.specs.declared.bundle.Bundle.{Bundle}
+use Rattle.rv_loader.specs.Loading.{loading_of}
+use Rattle.kernel_cli.specs.declared.command.Command.{Command}
+use Rattle.kernel_cli.specs.declared.command.Command.TheVariants.{Alone, Asm, Run, Script, Replay, Explain, Certify, Gen, Drill}
+use Rattle.kernel_cli.specs.declared.status.Status.{Status}
+use Rattle.kernel_cli.specs.declared.status.Status.TheVariants as statuses
+use Rattle.kernel_cli.specs.declared.status.Status.TheVariants.{Fine, BadWords, BadInput, ReadFault, WriteFault, Memory, LogFull}
+use Rattle.isa_model.specs.declared.task.Task.{Task}
+use Rattle.core_model.specs.declared.world.World.{World}
+use Rattle.core_model.specs.Security.{IsSecureByOne}
+use Rattle.probing_laws.specs.Certified.{IsCertified}
+use Rattle.probing_laws.specs.declared.verdict.Verdict.{Verdict}
+use Rattle.probing_laws.specs.declared.verdict.Verdict.TheVariants.{Secure, Leak}
+use Rattle.probing_laws.specs.declared.verdict.CertFault.{CertFault}
+use Rattle.probing_laws.specs.declared.verdict.CertFault.TheVariants as faults
+use Rattle.probing_laws.specs.declared.verdict.CertFault.TheVariants.{NoWorlds, TooMuch, Uneven, ControlDiffers}
 use Rattle.kernel_cli.specs.declared.answer.Response.{Response}
 use Rattle.kernel_cli.specs.declared.answer.Outcome.{Outcome}
 use Rattle.kernel_cli.specs.declared.answer.Outcome.TheVariants as outcomes
-use Rattle.kernel_cli.specs.Outcome.{status_of, IsAnswer}
-use Rattle.kernel_cli.specs.Answer.{Answer, answer_of, bundle_answer, too_large, input_limit}
-use Rattle.kernel_cli.specs.Soundness.{AreScriptsSound}
-use Rattle.kernel_cli.specs.TopCall.{WereLeft, Answers, AppendsPart, BeginsToAnswer, WritesOrFails, IsTooLarge, IsAnswered}
+use Rattle.kernel_cli.specs.Commands.{harts_of, reads_source}
+use Rattle.kernel_cli.specs.Replays.{order_report}
+use Rattle.kernel_cli.specs.Outcome.{status_of, IsAnswer, IsLoadedFrom, IsRefusedFor}
+use Rattle.kernel_cli.specs.Answer.{Answer, answer_of, input_answer, gen_answer, bundle_answer, loaded_answer, command_answer, verdict_answer, done, too_large, input_limit}
+use Rattle.kernel_cli.specs.Soundness.{LoadAs}
+use Rattle.kernel_cli.specs.Findings.{Finding, Nothing, Ordered, judgement_in}
+use Rattle.masked_gen.specs.Generator.{generated}
+use Rattle.kernel_cli.specs.Soundness.{AreGeneratedCoresSound, events_by}
+use Rattle.kernel_cli.specs.Drills.{IsDrillOrder}
+use Rattle.kernel_cli.proofs.SoundCores.{loads_as}
+use Rattle.kernel_cli.specs.Found.{IsRunOrder, IsFoundIn, IsFound, SecureTasksStaySecure}
+use Rattle.kernel_cli.specs.TopCall.{WereLeft, Answers, AppendsPart, IsCoreSoundFor, BeginsToAnswer, WritesOrFails, IsTooLarge, IsFirstTaskSecure, WasLoaded, IsAnswered}
+
+-- Of bytes that load as nothing anything is found.
+none_found : (command : Command) (bytes : List ℕ) → reads_source (Some command) ≡ true → ((loaded : Loaded) → LoadAs (harts_of command) bytes loaded → ⊥) → IsFound (Some command) bytes Nothing
+none_found command bytes reads none = λ loaded l. absurd (none loaded (loads_as command bytes loaded reads l))
+
+-- the answer to a command that reads is that over its input
+reading_answer : (command : Command) (found : Finding) (bytes : List ℕ) → reads_source (Some command) ≡ true
+    → answer_of (Some command) found bytes ≡ input_answer command found bytes
+reading_answer Alone found bytes reads = refl
+reading_answer Asm found bytes reads = refl
+reading_answer (Run harts) found bytes reads = refl
+reading_answer (Script probes) found bytes reads = refl
+reading_answer (Replay harts probes) found bytes reads = refl
+reading_answer Explain found bytes reads = refl
+reading_answer Certify found bytes reads = refl
+reading_answer (Gen seed tasks) found bytes reads = absurd (cc reads)
+reading_answer (Drill seed tasks) found bytes reads = absurd (cc reads)
 
 -- the answer over more bytes than the limit
-is_refused : (command : Command) (bytes : List ℕ) → input_limit < length bytes → answer_of (Some command) bytes ≡ too_large
-is_refused command bytes over = let test = lt-ltb 4194304 (length bytes) over in rw test refl
+input_refused : (command : Command) (bytes : List ℕ) → input_limit < length bytes → input_answer command Nothing bytes ≡ too_large
+input_refused command bytes over = let test = lt-ltb 4194304 (length bytes) over in rw test refl
+
+is_refused : (command : Command) (bytes : List ℕ) → reads_source (Some command) ≡ true → input_limit < length bytes
+    → answer_of (Some command) Nothing bytes ≡ too_large
+is_refused command bytes reads over = reading_answer command Nothing bytes reads ∙ input_refused command bytes over
+
+too_many_load_as_nothing : (bytes : List ℕ) → input_limit < length bytes → (harts : ℕ) (loaded : Loaded) → LoadAs harts bytes loaded → ⊥
+too_many_load_as_nothing bytes over harts loaded l = let within = l.within in omega (arith, over, within)
 
 -- bytes that a source may have had that tells none
 bytes_of_length : (n : ℕ) → (bytes : List ℕ) × (n ≡ length bytes)
 bytes_of_length n = (replicate n 0, sym (length-replicate n 0))
 
-untold_refused : (command : Command) (n : ℕ) → input_limit < n → (bytes : List ℕ) × (answer_of (Some command) bytes ≡ too_large)
-untold_refused command n over = let some = bytes_of_length n in (some.0, is_refused command some.0 (rw some.1 at over))
+untold_bytes : (n : ℕ) → input_limit < n → (bytes : List ℕ) × (input_limit < length bytes)
+untold_bytes n over = let some = bytes_of_length n in (some.0, rw some.1 at over)
 
--- bytes whose answer is the refusal, which are those that were left
-refused_bytes : (command : Command) (left left' : Option (List ℕ)) → IsTooLarge left left' → (bytes : List ℕ) × WereLeft bytes left × (answer_of (Some command) bytes ≡ too_large)
-refused_bytes command None left' large = let some = untold_refused command 4194305 (lit< tt) in (some.0, tt, some.1)
-refused_bytes command (Some bytes) left' large = (bytes, refl, is_refused command bytes large.0)
+-- too many bytes, which are those that were left
+too_many : (left left' : Option (List ℕ)) → IsTooLarge left left' → (bytes : List ℕ) × WereLeft bytes left × (input_limit < length bytes)
+too_many None left' large = let some = untold_bytes 4194305 (lit< tt) in (some.0, tt, some.1)
+too_many (Some bytes) left' large = (bytes, refl, large.0)
 
-all_written : (command : Command) (left left' held held' : Option (List ℕ)) → IsTooLarge left left' → Appends held held' too_large.text → Answers (Some command) BadInput left held held'
-all_written command left left' held held' large a =
-    let some = refused_bytes command left left' large in (some.0, some.1, ap (λ x. x.status) some.2, rw some.2 a)
+all_written : (command : Command) (left left' held held' : Option (List ℕ)) → reads_source (Some command) ≡ true → IsTooLarge left left' → Appends held held' too_large.text → Answers (Some command) BadInput left held held'
+all_written command left left' held held' reads large a =
+    let some = too_many left left' large in
+    let is = is_refused command some.0 reads some.2 in
+    (some.0, Nothing, some.1, none_found command some.0 reads (λ loaded l. too_many_load_as_nothing some.0 some.2 (harts_of command) loaded l), ap (λ x. x.status) is, rw is a)
 
-part_written : (command : Command) (left left' held held' : Option (List ℕ)) → IsTooLarge left left' → AppendsPart held held' too_large.text → BeginsToAnswer (Some command) left held held'
-part_written command left left' held held' large a = let some = refused_bytes command left left' large in (some.0, some.1, rw some.2 a)
-
--- a status that no core was run for
-no_script : {P : Type 0} {status : Status} → status ≢ Fine → status ≢ LogFull → (status ≡ Fine) ⊎ (status ≡ LogFull) → P
-no_script other_a other_b (inl e) = absurd (other_a e)
-no_script other_a other_b (inr e) = absurd (other_b e)
+part_written : (command : Command) (left left' held held' : Option (List ℕ)) → reads_source (Some command) ≡ true → IsTooLarge left left' → AppendsPart held held' too_large.text → BeginsToAnswer (Some command) left held held'
+part_written command left left' held held' reads large a =
+    let some = too_many left left' large in
+    let is = is_refused command some.0 reads some.2 in
+    (some.0, Nothing, some.1, none_found command some.0 reads (λ loaded l. too_many_load_as_nothing some.0 some.2 (harts_of command) loaded l), rw is a)
 
 -- the refusal was written, or a part of it
 pub answered_too_large : {S K : Type 0} (left : S → Option (List ℕ)) (read_faults : S → ℕ) (held : K → Option (List ℕ)) (write_faults : K → ℕ)
@@ -50,35 +96,48 @@ pub answered_too_large : {S K : Type 0} (left : S → Option (List ℕ)) (read_f
     → IsTooLarge (left src) (left src')
     → ConsumesAtMost (left src) (left src') (input_limit + 1)
     → WritesOrFails BadInput (held sink) (held sink') (write_faults sink) (write_faults sink') too_large.text status
+    → reads_source (Some command) ≡ true
+    → IsCoreSoundFor (Some command) (left src)
     → IsAnswered left read_faults held write_faults (Some command) src src' sink sink' status
-answered_too_large left read_faults held write_faults command src src' sink sink' status large taken (inl w) = record {
+answered_too_large left read_faults held write_faults command src src' sink sink' status large taken (inl w) reads sound = record {
   refused = λ e. absurd cc;
+  unread = λ e. absurd (cc (sym reads ∙ e));
   bad_words = λ e. absurd cc;
   fine = λ e. absurd cc;
-  bad_input = λ e. (inr large, all_written command (left src) (left src') _ _ large w.1);
+  bad_input = λ e. (inr large, all_written command (left src) (left src') _ _ reads large w.1);
   log_full = λ e. absurd cc;
+  verdict = λ e. absurd cc;
   read_fault = λ e. absurd cc;
   write_fault = λ e. absurd cc;
   memory = λ e. absurd cc;
-  scripts_sound = λ runs. no_script (λ e. absurd cc) (λ e. absurd cc);
+  cores_sound = sound;
+  certified = λ _ e. absurd cc;
   taken = taken;
 }
-answered_too_large left read_faults held write_faults command src src' sink sink' status large taken (inr w) = record {
+answered_too_large left read_faults held write_faults command src src' sink sink' status large taken (inr w) reads sound = record {
   refused = λ e. absurd cc;
+  unread = λ e. absurd (cc (sym reads ∙ e));
   bad_words = λ e. absurd cc;
   fine = λ e. absurd cc;
   bad_input = λ e. absurd cc;
   log_full = λ e. absurd cc;
+  verdict = λ e. absurd cc;
   read_fault = λ e. absurd cc;
-  write_fault = λ e. (w.1, part_written command (left src) (left src') _ _ large w.2, λ _. inr large);
+  write_fault = λ e. (w.1, part_written command (left src) (left src') _ _ reads large w.2, λ _. inr large);
   memory = λ e. absurd cc;
-  scripts_sound = λ runs. no_script (λ e. absurd cc) (λ e. absurd cc);
+  cores_sound = sound;
+  certified = λ _ e. absurd cc;
   taken = taken;
 }
 
 -- the answer over no more bytes than the limit
-is_answered_by_bundle : (command : Command) (bytes : List ℕ) → length bytes ≤ input_limit → answer_of (Some command) bytes ≡ bundle_answer command (bundle_of bytes)
-is_answered_by_bundle command bytes within = let test = le-ltb 4194304 (length bytes) within in rw test refl
+input_answered : (command : Command) (found : Finding) (bytes : List ℕ) → length bytes ≤ input_limit
+    → input_answer command found bytes ≡ bundle_answer command found (bundle_of bytes)
+input_answered command found bytes within = let test = le-ltb 4194304 (length bytes) within in rw test refl
+
+is_answered_by_bundle : (command : Command) (found : Finding) (bytes : List ℕ) → reads_source (Some command) ≡ true → length bytes ≤ input_limit
+    → answer_of (Some command) found bytes ≡ bundle_answer command found (bundle_of bytes)
+is_answered_by_bundle command found bytes reads within = reading_answer command found bytes reads ∙ input_answered command found bytes within
 
 -- an answer is no fault and no refusal of words
 pub data IsOfAnswer (status : Status) : Type 0 where
@@ -86,62 +145,371 @@ pub data IsOfAnswer (status : Status) : Type 0 where
 
 of_answer : (outcome : Outcome) → IsOfAnswer (status_of outcome)
 of_answer outcomes.Fine = OfAnswer (λ e. cc) (λ e. cc) (λ e. cc) (λ e. cc)
+of_answer outcomes.Verdict = OfAnswer (λ e. cc) (λ e. cc) (λ e. cc) (λ e. cc)
 of_answer outcomes.BadInput = OfAnswer (λ e. cc) (λ e. cc) (λ e. cc) (λ e. cc)
 of_answer outcomes.LogFull = OfAnswer (λ e. cc) (λ e. cc) (λ e. cc) (λ e. cc)
 
--- the answer was written with its status
-answer_written : (command : Command) (bytes : List ℕ) (left held held' : Option (List ℕ)) (response : Response) (status asked : Status)
-    → WereLeft bytes left → IsAnswer response (answer_of (Some command) bytes) → status ≡ status_of response.outcome → Appends held held' response.text.items
-    → status ≡ asked → Answers (Some command) asked left held held'
-answer_written command bytes left held held' response status asked were is written appends e =
-    let P : List ℕ → Type 0 = λ text. Appends held held' text in
-    (bytes, were, sym is.status ∙ sym written ∙ e, subst P is.text appends)
+-- A verdict whose answer is fine says that the task is secure.
+fine_is_secure : (T : Task) (worlds : List World) (judgement : Result Verdict CertFault) → IsCertified T worlds judgement
+    → (verdict_answer judgement).status ≡ Fine → IsSecureByOne T worlds
+fine_is_secure T worlds (Ok (Secure places)) is e = is.1
+fine_is_secure T worlds (Ok (Leak step latch a b pair count_a count_b)) is e = absurd (cc e)
+fine_is_secure T worlds (Err NoWorlds) is e = absurd (cc e)
+fine_is_secure T worlds (Err (TooMuch product)) is e = absurd (cc e)
+fine_is_secure T worlds (Err (Uneven a b)) is e = absurd (cc e)
+fine_is_secure T worlds (Err (ControlDiffers v w step)) is e = absurd (cc e)
+fine_is_secure T worlds (Err faults.Memory) is e = absurd (cc e)
 
-answer_begun : (command : Command) (bytes : List ℕ) (left held held' : Option (List ℕ)) (response : Response) → WereLeft bytes left
-    → IsAnswer response (answer_of (Some command) bytes) → AppendsPart held held' response.text.items → BeginsToAnswer (Some command) left held held'
-answer_begun command bytes left held held' response were is part =
-    let P : List ℕ → Type 0 = λ text. AppendsPart held held' text in (bytes, were, subst P is.text part)
+-- the answer over bytes that load
+loads_answer : (command : Command) (found : Finding) (bytes : List ℕ) (loaded : Loaded) → reads_source (Some command) ≡ true → LoadAs (harts_of command) bytes loaded
+    → answer_of (Some command) found bytes ≡ command_answer command found loaded
+loads_answer command found bytes loaded reads l =
+    is_answered_by_bundle command found bytes reads l.within ∙ ap (λ b. bundle_answer command found b) l.reads ∙ ap (λ x. loaded_answer command found x) l.loads
+
+-- The task is secure of which a verdict is fine.
+is_certified : (bytes : List ℕ) (found : Finding) → IsFound (Some Certify) bytes found → (answer_of (Some Certify) found bytes).status ≡ Fine
+    → SecureTasksStaySecure → (left : Option (List ℕ)) → WereLeft bytes left → IsFirstTaskSecure left
+is_certified bytes found is fine securing None were = tt
+is_certified bytes found is fine securing (Some told) were = λ loaded l T at.
+    (let here : LoadAs 8 bytes loaded = subst (λ (xs : List ℕ). LoadAs 8 xs loaded) (sym were) l in
+    securing 8 (omega arith, omega arith) bytes loaded here T
+    (fine_is_secure T loaded.worlds (judgement_in found) ((is loaded here).certified T at)
+    (sym (ap (λ (a : Answer). a.status) (loads_answer Certify found bytes loaded refl here)) ∙ fine)))
+
+for_command : (command : Command) (bytes : List ℕ) (found : Finding) (left : Option (List ℕ)) → IsFound (Some command) bytes found → SecureTasksStaySecure → WereLeft bytes left
+    → Some command ≡ Some Certify → (answer_of (Some command) found bytes).status ≡ Fine → IsFirstTaskSecure left
+for_command command bytes found left is securing were e fine =
+    let same : command ≡ Certify = cc e in
+    is_certified bytes found (subst (λ (c : Command). IsFound (Some c) bytes found) same is)
+    (subst (λ (c : Command). (answer_of (Some c) found bytes).status ≡ Fine) same fine) securing left were
+
+-- The command reads, and what holds of every core, and of a task that is certified.
+pub record IsBacked (command : Command) (left : Option (List ℕ)) : Type 0 where
+  pub reads : reads_source (Some command) ≡ true
+  pub cores : IsCoreSoundFor (Some command) left
+  pub securing : SecureTasksStaySecure
 
 -- The answer was written, or a part of it.
-pub answered_made : {S K : Type 0} (left : S → Option (List ℕ)) (read_faults : S → ℕ) (held : K → Option (List ℕ)) (write_faults : K → ℕ)
-    (command : Command) (src src' : S) (sink sink' : K) (status : Status) (bytes : List ℕ) (response : Response)
-    → WereLeft bytes (left src) → length bytes ≤ input_limit → IsAtEnd (left src')
-    → ConsumesAtMost (left src) (left src') (input_limit + 1)
-    → IsAnswer response (bundle_answer command (bundle_of bytes))
-    → WritesOrFails (status_of response.outcome) (held sink) (held sink') (write_faults sink) (write_faults sink') response.text.items status
-    → AreScriptsSound
+answered_by : {S K : Type 0} (left : S → Option (List ℕ)) (read_faults : S → ℕ) (held : K → Option (List ℕ)) (write_faults : K → ℕ)
+    (command : Command) (src src' : S) (sink sink' : K) (status : Status) (bytes : List ℕ) (found : Finding) (answer : Answer)
+    → WereLeft bytes (left src) → IsFound (Some command) bytes found → answer_of (Some command) found bytes ≡ answer → IsOfAnswer answer.status
+    → IsAtEnd (left src') → ConsumesAtMost (left src) (left src') (input_limit + 1)
+    → WritesOrFails answer.status (held sink) (held sink') (write_faults sink) (write_faults sink') answer.text status
+    → IsBacked command (left src)
     → IsAnswered left read_faults held write_faults (Some command) src src' sink sink' status
-answered_made left read_faults held write_faults command src src' sink sink' status bytes response were within end taken is (inl w) sound =
-    let P : Answer → Type 0 = λ answer. IsAnswer response answer in
-    let whole : IsAnswer response (answer_of (Some command) bytes) = subst P (sym (is_answered_by_bundle command bytes within)) is in
-    by_kind (of_answer response.outcome) (λ asked e. answer_written command bytes (left src) (held sink) (held sink') response status asked were whole w.0 w.1 e)
-  where
-    by_kind : IsOfAnswer (status_of response.outcome) → ((asked : Status) → status ≡ asked → Answers (Some command) asked (left src) (held sink) (held sink'))
-        → IsAnswered left read_faults held write_faults (Some command) src src' sink sink' status
-    by_kind (OfAnswer no_words no_read no_write no_memory) written = record {
+answered_by left read_faults held write_faults command src src' sink sink' status bytes found answer were finds is (OfAnswer no_words no_read no_write no_memory) end taken (inl w) backed =
+    let written : (asked : Status) → status ≡ asked → Answers (Some command) asked (left src) (held sink) (held sink') =
+    λ asked e. (
+      bytes,
+      found,
+      were,
+      finds,
+      ap (λ (a : Answer). a.status) is ∙ sym w.0 ∙ e,
+      subst (λ (text : List ℕ). Appends (held sink) (held sink') text) (sym (ap (λ (a : Answer). a.text) is)) w.1,
+    ) in
+    record {
       refused = λ e. absurd cc;
+      unread = λ e. absurd (cc (sym backed.reads ∙ e));
       bad_words = λ e. absurd (no_words (sym w.0 ∙ e));
-      fine = λ e. (end, written Fine e);
+      fine = λ e. (λ _. end, written Fine e);
       bad_input = λ e. (inl end, written BadInput e);
       log_full = λ e. (end, written LogFull e);
+      verdict = λ e. (end, written statuses.Verdict e);
       read_fault = λ e. absurd (no_read (sym w.0 ∙ e));
       write_fault = λ e. absurd (no_write (sym w.0 ∙ e));
       memory = λ e. absurd (no_memory (sym w.0 ∙ e));
-      scripts_sound = λ runs e any loaded were_left loads. sound any loaded loads;
+      cores_sound = backed.cores;
+      certified = λ e fine. for_command command bytes found (left src) finds backed.securing were e (ap (λ (a : Answer). a.status) is ∙ sym w.0 ∙ fine);
       taken = taken;
     }
-answered_made left read_faults held write_faults command src src' sink sink' status bytes response were within end taken is (inr w) sound =
-    let P : Answer → Type 0 = λ answer. IsAnswer response answer in
-    let whole : IsAnswer response (answer_of (Some command) bytes) = subst P (sym (is_answered_by_bundle command bytes within)) is in
+answered_by left read_faults held write_faults command src src' sink sink' status bytes found answer were finds is kind end taken (inr w) backed =
+    let begun : BeginsToAnswer (Some command) (left src) (held sink) (held sink') =
+    (bytes, found, were, finds, subst (λ (text : List ℕ). AppendsPart (held sink) (held sink') text) (sym (ap (λ (a : Answer). a.text) is)) w.2) in
     record {
       refused = λ e. absurd cc;
+      unread = λ e. absurd (cc (sym backed.reads ∙ e));
       bad_words = λ e. absurd cc;
       fine = λ e. absurd cc;
       bad_input = λ e. absurd cc;
       log_full = λ e. absurd cc;
+      verdict = λ e. absurd cc;
       read_fault = λ e. absurd cc;
-      write_fault = λ e. (w.1, answer_begun command bytes (left src) (held sink) (held sink') response were whole w.2, λ _. inl end);
+      write_fault = λ e. (w.1, begun, λ _. inl end);
       memory = λ e. absurd cc;
-      scripts_sound = λ runs. no_script (λ e. absurd cc) (λ e. absurd cc);
+      cores_sound = backed.cores;
+      certified = λ _ e. absurd cc;
       taken = taken;
     }
+
+-- so where a response is this answer
+answered_so : {S K : Type 0} (left : S → Option (List ℕ)) (read_faults : S → ℕ) (held : K → Option (List ℕ)) (write_faults : K → ℕ)
+    (command : Command) (src src' : S) (sink sink' : K) (status : Status) (bytes : List ℕ) (found : Finding) (response : Response) (answer : Answer)
+    → WereLeft bytes (left src) → IsFound (Some command) bytes found → answer_of (Some command) found bytes ≡ answer → IsAnswer response answer
+    → IsAtEnd (left src') → ConsumesAtMost (left src) (left src') (input_limit + 1)
+    → WritesOrFails (status_of response.outcome) (held sink) (held sink') (write_faults sink) (write_faults sink') response.text.items status
+    → IsBacked command (left src)
+    → IsAnswered left read_faults held write_faults (Some command) src src' sink sink' status
+answered_so left read_faults held write_faults command src src' sink sink' status bytes found response answer were finds is by end taken written backed =
+    let W : Status → List ℕ → Type 0 = λ asked text. WritesOrFails asked (held sink) (held sink') (write_faults sink) (write_faults sink') text status in
+    answered_by left read_faults held write_faults command src src' sink sink' status bytes found answer were finds is
+    (subst IsOfAnswer by.status (of_answer response.outcome)) end taken
+    (subst (λ (text : List ℕ). W answer.status text) by.text (subst (λ (asked : Status). W asked response.text.items) by.status written)) backed
+
+-- Bytes that are refused load as nothing.
+refused_load_as_nothing : (harts : ℕ) (bytes : List ℕ) (response : Response) → IsRefusedFor harts bytes response → (loaded : Loaded)
+    → LoadAs harts bytes loaded → ⊥
+refused_load_as_nothing harts bytes response r loaded l =
+    let both : BadInput ≡ Fine =
+    sym (ap status_of r.outcome) ∙ (r.answer (Run harts) Nothing refl).status ∙ ap (λ b. (bundle_answer (Run harts) Nothing b).status) l.reads
+    ∙ ap (λ x. (loaded_answer (Run harts) Nothing x).status) l.loads in
+    absurd (cc both)
+
+-- The refusal of the input was written, or a part of it.
+pub answered_refused : {S K : Type 0} (left : S → Option (List ℕ)) (read_faults : S → ℕ) (held : K → Option (List ℕ)) (write_faults : K → ℕ)
+    (command : Command) (src src' : S) (sink sink' : K) (status : Status) (bytes : List ℕ) (response : Response)
+    → WereLeft bytes (left src) → length bytes ≤ input_limit → IsAtEnd (left src')
+    → ConsumesAtMost (left src) (left src') (input_limit + 1)
+    → IsRefusedFor (harts_of command) bytes response
+    → WritesOrFails (status_of response.outcome) (held sink) (held sink') (write_faults sink) (write_faults sink') response.text.items status
+    → IsBacked command (left src)
+    → IsAnswered left read_faults held write_faults (Some command) src src' sink sink' status
+answered_refused left read_faults held write_faults command src src' sink sink' status bytes response were within end taken r written backed =
+    answered_so left read_faults held write_faults command src src' sink sink' status bytes Nothing response (bundle_answer command Nothing (bundle_of bytes)) were
+    (none_found command bytes backed.reads (λ loaded l. refused_load_as_nothing (harts_of command) bytes response r loaded l))
+    (is_answered_by_bundle command Nothing bytes backed.reads within) (r.answer command Nothing refl) end taken written backed
+
+-- the answer over bytes that were loaded
+is_answered_by_loaded : (command : Command) (found : Finding) (bytes : List ℕ) (loaded : Loaded) → reads_source (Some command) ≡ true → length bytes ≤ input_limit
+    → IsLoadedFrom (harts_of command) bytes loaded → answer_of (Some command) found bytes ≡ command_answer command found loaded
+is_answered_by_loaded command found bytes loaded reads within from =
+    is_answered_by_bundle command found bytes reads within ∙ ap (λ b. bundle_answer command found b) from.reads ∙ ap (λ x. loaded_answer command found x) from.loads
+
+-- What bytes load as is one bundle, so what is found of it is found of the bytes.
+one_loaded : (harts : ℕ) (bytes : List ℕ) (loaded other : Loaded) → IsLoadedFrom harts bytes loaded → LoadAs harts bytes other → loaded ≡ other
+one_loaded harts bytes loaded other from l =
+    let bundles : from.bundle ≡ l.bundle = cc (sym from.reads ∙ l.reads) in
+    cc (sym from.loads ∙ ap (λ (b : Bundle). loading_of b harts) bundles ∙ l.loads)
+
+found_of : (command : Command) (bytes : List ℕ) (loaded : Loaded) (found : Finding) → reads_source (Some command) ≡ true → IsLoadedFrom (harts_of command) bytes loaded
+    → IsFoundIn command loaded found → IsFound (Some command) bytes found
+found_of command bytes loaded found reads from is = λ other l.
+    subst (λ (x : Loaded). IsFoundIn command x found) (one_loaded (harts_of command) bytes loaded other from (loads_as command bytes other reads l)) is
+
+-- The answer over the bundle was written, or a part of it.
+pub answered_loaded : {S K : Type 0} (left : S → Option (List ℕ)) (read_faults : S → ℕ) (held : K → Option (List ℕ)) (write_faults : K → ℕ)
+    (command : Command) (src src' : S) (sink sink' : K) (status : Status) (loaded : Loaded) (found : Finding) (response : Response)
+    → WasLoaded (harts_of command) (left src) (left src') loaded
+    → IsFoundIn command loaded found
+    → IsAnswer response (command_answer command found loaded)
+    → WritesOrFails (status_of response.outcome) (held sink) (held sink') (write_faults sink) (write_faults sink') response.text.items status
+    → IsBacked command (left src)
+    → IsAnswered left read_faults held write_faults (Some command) src src' sink sink' status
+answered_loaded left read_faults held write_faults command src src' sink sink' status loaded found response was finds is written backed =
+    answered_so left read_faults held write_faults command src src' sink sink' status was.bytes found response (command_answer command found loaded) was.were
+    (found_of command was.bytes loaded found backed.reads was.from finds) (is_answered_by_loaded command found was.bytes loaded backed.reads was.within was.from) is was.end was.taken
+    written backed
+
+-- The report of a run was written, or a part of it.
+answered_run : {S K : Type 0} (left : S → Option (List ℕ)) (read_faults : S → ℕ) (held : K → Option (List ℕ)) (write_faults : K → ℕ)
+    (harts : ℕ) (src src' : S) (sink sink' : K) (status : Status) (loaded : Loaded) (order : List ℕ)
+    → WasLoaded harts (left src) (left src') loaded
+    → IsRunOrder loaded order
+    → WritesOrFails Fine (held sink) (held sink') (write_faults sink) (write_faults sink') (order_report loaded order) status
+    → IsBacked (Run harts) (left src)
+    → IsAnswered left read_faults held write_faults (Some (Run harts)) src src' sink sink' status
+answered_run left read_faults held write_faults harts src src' sink sink' status loaded order was run written backed =
+    answered_by left read_faults held write_faults (Run harts) src src' sink sink' status was.bytes (Ordered order) (done (order_report loaded order)) was.were
+    (found_of (Run harts) was.bytes loaded (Ordered order) refl was.from run) (is_answered_by_loaded (Run harts) (Ordered order) was.bytes loaded refl was.within was.from)
+    (OfAnswer (λ e. cc) (λ e. cc) (λ e. cc) (λ e. cc)) was.end was.taken written backed
+
+-- The source counted a fault.
+pub answered_unread : {S K : Type 0} (left : S → Option (List ℕ)) (read_faults : S → ℕ) (held : K → Option (List ℕ)) (write_faults : K → ℕ)
+    (command : Command) (src src' : S) (sink : K)
+    → Rose (read_faults src) (read_faults src')
+    → ConsumesAtMost (left src) (left src') (input_limit + 1)
+    → reads_source (Some command) ≡ true
+    → IsCoreSoundFor (Some command) (left src)
+    → IsAnswered left read_faults held write_faults (Some command) src src' sink sink ReadFault
+answered_unread left read_faults held write_faults command src src' sink rose taken reads sound = record {
+  refused = λ e. absurd cc;
+  unread = λ e. absurd (cc (sym reads ∙ e));
+  bad_words = λ e. absurd cc;
+  fine = λ e. absurd cc;
+  bad_input = λ e. absurd cc;
+  log_full = λ e. absurd cc;
+  verdict = λ e. absurd cc;
+  read_fault = λ e. (rose, reads, refl);
+  write_fault = λ e. absurd cc;
+  memory = λ e. absurd cc;
+  cores_sound = sound;
+  certified = λ _ e. absurd cc;
+  taken = taken;
+}
+
+-- Memory ran out before anything was written.
+pub answered_without_memory : {S K : Type 0} (left : S → Option (List ℕ)) (read_faults : S → ℕ) (held : K → Option (List ℕ)) (write_faults : K → ℕ)
+    (command : Command) (src src' : S) (sink : K)
+    → ConsumesAtMost (left src) (left src') (input_limit + 1)
+    → reads_source (Some command) ≡ true
+    → IsCoreSoundFor (Some command) (left src)
+    → IsAnswered left read_faults held write_faults (Some command) src src' sink sink Memory
+answered_without_memory left read_faults held write_faults command src src' sink taken reads sound = record {
+  refused = λ e. absurd cc;
+  unread = λ e. absurd (cc (sym reads ∙ e));
+  bad_words = λ e. absurd cc;
+  fine = λ e. absurd cc;
+  bad_input = λ e. absurd cc;
+  log_full = λ e. absurd cc;
+  verdict = λ e. absurd cc;
+  read_fault = λ e. absurd cc;
+  write_fault = λ e. absurd cc;
+  memory = λ e. refl;
+  cores_sound = sound;
+  certified = λ _ e. absurd cc;
+  taken = taken;
+}
+
+-- The end of a run over a bundle that loads.
+pub answered_after_run : {S K : Type 0} (left : S → Option (List ℕ)) (read_faults : S → ℕ) (held : K → Option (List ℕ)) (write_faults : K → ℕ)
+    (harts : ℕ) (src src' : S) (sink sink' : K) (status : Status) (loaded : Loaded)
+    → WasLoaded harts (left src) (left src') loaded
+    → ((sink' ≡ sink) × (status ≡ Memory)) ⊎ ((order : List ℕ) × IsRunOrder loaded order
+    × WritesOrFails Fine (held sink) (held sink') (write_faults sink) (write_faults sink') (order_report loaded order) status)
+    → IsBacked (Run harts) (left src)
+    → IsAnswered left read_faults held write_faults (Some (Run harts)) src src' sink sink' status
+answered_after_run left read_faults held write_faults harts src src' sink sink' status loaded was (inl none) backed =
+    let none_written = answered_without_memory left read_faults held write_faults (Run harts) src src' sink was.taken refl backed.cores in
+    subst (λ k. IsAnswered left read_faults held write_faults (Some (Run harts)) src src' sink k status) (sym none.0)
+    (subst (λ (s : Status). IsAnswered left read_faults held write_faults (Some (Run harts)) src src' sink sink s) (sym none.1) none_written)
+answered_after_run left read_faults held write_faults harts src src' sink sink' status loaded was (inr run) backed =
+    answered_run left read_faults held write_faults harts src src' sink sink' status loaded run.0 was run.1 run.2 backed
+
+-- bytes that may have been left
+some_left : (left : Option (List ℕ)) → (bytes : List ℕ) × WereLeft bytes left
+some_left None = ([], tt)
+some_left (Some bytes) = (bytes, refl)
+
+-- A source that is left as it is gives nothing.
+nothing_taken : (left : Option (List ℕ)) (most : ℕ) → ConsumesAtMost left left most
+nothing_taken None most = ([], omega arith, tt)
+nothing_taken (Some bytes) most = ([], omega arith, refl)
+
+-- Memory ran out before anything was written of the answer to a command that doesn't read.
+unread_without_memory : {S K : Type 0} (left : S → Option (List ℕ)) (read_faults : S → ℕ) (held : K → Option (List ℕ)) (write_faults : K → ℕ)
+    (command : Command) (src : S) (sink : K)
+    → reads_source (Some command) ≡ false → IsCoreSoundFor (Some command) (left src) → (Some command ≡ Some Certify → ⊥)
+    → IsAnswered left read_faults held write_faults (Some command) src src sink sink Memory
+unread_without_memory left read_faults held write_faults command src sink unread sound other = record {
+  refused = λ e. absurd (cc e);
+  unread = λ e. refl;
+  bad_words = λ e. absurd cc;
+  fine = λ e. absurd cc;
+  bad_input = λ e. absurd cc;
+  log_full = λ e. absurd cc;
+  verdict = λ e. absurd cc;
+  read_fault = λ e. absurd cc;
+  write_fault = λ e. absurd cc;
+  memory = λ e. refl;
+  cores_sound = sound;
+  certified = λ e _. absurd (other e);
+  taken = nothing_taken (left src) (input_limit + 1);
+}
+
+-- It was written, or a part of it.
+unread_written : {S K : Type 0} (left : S → Option (List ℕ)) (read_faults : S → ℕ) (held : K → Option (List ℕ)) (write_faults : K → ℕ)
+    (command : Command) (src : S) (sink sink' : K) (status : Status) (found : Finding) (text : List ℕ)
+    → reads_source (Some command) ≡ false → IsCoreSoundFor (Some command) (left src) → (Some command ≡ Some Certify → ⊥)
+    → ((bytes : List ℕ) → IsFound (Some command) bytes found) → ((bytes : List ℕ) → answer_of (Some command) found bytes ≡ done text)
+    → WritesOrFails Fine (held sink) (held sink') (write_faults sink) (write_faults sink') text status
+    → IsAnswered left read_faults held write_faults (Some command) src src sink sink' status
+unread_written left read_faults held write_faults command src sink sink' status found text unread sound other finds is (inl w) = record {
+  refused = λ e. absurd (cc e);
+  unread = λ e. refl;
+  bad_words = λ e. absurd (cc (sym w.0 ∙ e));
+  fine = λ e. (let some = some_left (left src) in (
+    λ reads. absurd (cc (sym unread ∙ reads)),
+    (
+      some.0,
+      found,
+      some.1,
+      finds some.0,
+      ap (λ (a : Answer). a.status) (is some.0),
+      subst (λ (t : List ℕ). Appends (held sink) (held sink') t) (sym (ap (λ (a : Answer). a.text) (is some.0))) w.1,
+    ),
+  ));
+  bad_input = λ e. absurd (cc (sym w.0 ∙ e));
+  log_full = λ e. absurd (cc (sym w.0 ∙ e));
+  verdict = λ e. absurd (cc (sym w.0 ∙ e));
+  read_fault = λ e. absurd (cc (sym w.0 ∙ e));
+  write_fault = λ e. absurd (cc (sym w.0 ∙ e));
+  memory = λ e. absurd (cc (sym w.0 ∙ e));
+  cores_sound = sound;
+  certified = λ e _. absurd (other e);
+  taken = nothing_taken (left src) (input_limit + 1);
+}
+unread_written left read_faults held write_faults command src sink sink' status found text unread sound other finds is (inr w) = record {
+  refused = λ e. absurd (cc e);
+  unread = λ e. refl;
+  bad_words = λ e. absurd (cc (sym w.0 ∙ e));
+  fine = λ e. absurd (cc (sym w.0 ∙ e));
+  bad_input = λ e. absurd (cc (sym w.0 ∙ e));
+  log_full = λ e. absurd (cc (sym w.0 ∙ e));
+  verdict = λ e. absurd (cc (sym w.0 ∙ e));
+  read_fault = λ e. absurd (cc (sym w.0 ∙ e));
+  write_fault = λ e. (let some = some_left (left src) in (
+    w.1,
+    (
+      some.0,
+      found,
+      some.1,
+      finds some.0,
+      subst (λ (t : List ℕ). AppendsPart (held sink) (held sink') t) (sym (ap (λ (a : Answer). a.text) (is some.0))) w.2,
+    ),
+    λ reads. absurd (cc (sym unread ∙ reads)),
+  ));
+  memory = λ e. absurd (cc (sym w.0 ∙ e));
+  cores_sound = sound;
+  certified = λ e _. absurd (other e);
+  taken = nothing_taken (left src) (input_limit + 1);
+}
+
+-- The end of a command that doesn't read: memory ran out, or the answer was written.
+unread_ends : {S K : Type 0} (left : S → Option (List ℕ)) (read_faults : S → ℕ) (held : K → Option (List ℕ)) (write_faults : K → ℕ)
+    (command : Command) (src : S) (sink sink' : K) (status : Status)
+    → reads_source (Some command) ≡ false → IsCoreSoundFor (Some command) (left src) → (Some command ≡ Some Certify → ⊥)
+    → (sink' ≡ sink) → (status ≡ Memory)
+    → IsAnswered left read_faults held write_faults (Some command) src src sink sink' status
+unread_ends left read_faults held write_faults command src sink sink' status unread sound other same memory =
+    let none_written = unread_without_memory left read_faults held write_faults command src sink unread sound other in
+    subst (λ k. IsAnswered left read_faults held write_faults (Some command) src src sink k status) (sym same)
+    (subst (λ (s : Status). IsAnswered left read_faults held write_faults (Some command) src src sink sink s) (sym memory) none_written)
+
+-- The end of `gen`.
+pub answered_generated : {S K : Type 0} (left : S → Option (List ℕ)) (read_faults : S → ℕ) (held : K → Option (List ℕ)) (write_faults : K → ℕ)
+    (seed tasks : ℕ) (src : S) (sink sink' : K) (status : Status)
+    → ((sink' ≡ sink) × (status ≡ Memory)) ⊎ WritesOrFails Fine (held sink) (held sink') (write_faults sink) (write_faults sink') (gen_answer seed tasks).text status
+    → IsAnswered left read_faults held write_faults (Some (Gen seed tasks)) src src sink sink' status
+answered_generated left read_faults held write_faults seed tasks src sink sink' status (inl none) =
+    unread_ends left read_faults held write_faults (Gen seed tasks) src sink sink' status refl (λ runs. absurd runs) (λ e. cc e) none.0 none.1
+answered_generated left read_faults held write_faults seed tasks src sink sink' status (inr written) =
+    unread_written left read_faults held write_faults (Gen seed tasks) src sink sink' status Nothing (gen_answer seed tasks).text refl (λ runs. absurd runs) (λ e. cc e)
+    (λ bytes. λ loaded l. refl) (λ bytes. refl) written
+
+-- The end of `drill`.
+pub answered_drilled : {S K : Type 0} (left : S → Option (List ℕ)) (read_faults : S → ℕ) (held : K → Option (List ℕ)) (write_faults : K → ℕ)
+    (seed tasks : ℕ) (src : S) (sink sink' : K) (status : Status)
+    → AreGeneratedCoresSound → tasks ≤ 32
+    → ((sink' ≡ sink) × (status ≡ Memory)) ⊎ ((loaded : Loaded) × (loading_of (generated seed tasks) 1 ≡ Ok loaded) × (order : List ℕ) × IsDrillOrder loaded order
+    × WritesOrFails Fine (held sink) (held sink') (write_faults sink) (write_faults sink') (order_report loaded order) status)
+    → IsAnswered left read_faults held write_faults (Some (Drill seed tasks)) src src sink sink' status
+answered_drilled left read_faults held write_faults seed tasks src sink sink' status cores few (inl none) =
+    unread_ends left read_faults held write_faults (Drill seed tasks) src sink sink' status refl
+    (λ runs bytes loaded were loads found. cores seed tasks few loaded loads (events_by (Drill seed tasks) found loaded)) (λ e. cc e) none.0 none.1
+answered_drilled left read_faults held write_faults seed tasks src sink sink' status cores few (inr written) =
+    let loaded = written.0 in
+    let loads = written.1 in
+    let order = written.2 in
+    unread_written left read_faults held write_faults (Drill seed tasks) src sink sink' status (Ordered order) (order_report loaded order) refl
+    (λ runs bytes loaded were loads found. cores seed tasks few loaded loads (events_by (Drill seed tasks) found loaded)) (λ e. cc e)
+    (λ bytes other l. subst (λ (x : Loaded). IsDrillOrder x order) (cc (sym loads ∙ l)) written.3)
+    (λ bytes. ap (λ x. loaded_answer (Drill seed tasks) (Ordered order) x) loads) written.4

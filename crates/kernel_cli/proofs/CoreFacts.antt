@@ -12,7 +12,7 @@ use Rattle.hart_model.specs.StepResult.{StepResult, Steps, Wants, Wedged}
 use Rattle.hart_model.specs.HartStep.{hart_step, answer_take, answer_give}
 use Rattle.core_model.specs.declared.event.Event.{Event}
 use Rattle.core_model.specs.declared.event.Event.TheVariants.{Go, Tick}
-use Rattle.core_model.specs.Board.{BoardState, take_of, take_from, give_done_of, with_next_admitted}
+use Rattle.core_model.specs.Board.{BoardState, Front, front_of, take_of, take_from, give_done_of, with_next_admitted}
 use Rattle.core_model.specs.Core.{CoreState, harts_from, after_give_done, after_call, after_step, after_go, after_tick, after_event, core_from}
 
 -- a core whose log begins here
@@ -101,9 +101,9 @@ one_more order hart = let e = length-append order (hart ∷ []) in omega arith
 none_more : (order : List ℕ) → length order ≤ length order + 1
 none_more order = omega arith
 
-taken_order : (b : BoardState) (hart : ℕ) (ready : List ContextState) → length (take_from b hart ready).board.order ≤ length b.order + 1
-taken_order b hart [] = one_more b.order hart
-taken_order b hart (c ∷ cs) = one_more b.order hart
+taken_order : (b : BoardState) (hart : ℕ) (front : Option Front) → length (take_from b hart front).board.order ≤ length b.order + 1
+taken_order b hart None = one_more b.order hart
+taken_order b hart (Some front) = one_more b.order hart
 
 admitted_order : (b : BoardState) (slot : ℕ) (words : List Cell) (waiting : List BodyState) → (with_next_admitted b slot words waiting).order ≡ b.order
 admitted_order b slot words [] = refl
@@ -116,7 +116,7 @@ done_order b hart c end =
 
 call_order : (c : CoreState) (hart : ℕ) (h : HartState) (call : QueueCall) (begun : List CellWrite) (rd next : ℕ) (held : Option ContextState)
     → length (after_call c hart h call begun rd next held).core.board.order ≤ length c.board.order + 1
-call_order c hart h Take begun rd next held = taken_order c.board hart c.board.ready
+call_order c hart h Take begun rd next held = taken_order c.board hart (front_of c.board.ready.first c.board.ready.second)
 call_order c hart h GiveReady begun rd next None = none_more c.board.order
 call_order c hart h GiveDone begun rd next None = none_more c.board.order
 call_order c hart h GiveReady begun rd next (Some held) = one_more c.board.order hart

@@ -4,7 +4,8 @@ use Rattle.core_model.specs.declared.event.Event.{Event}
 use Rattle.core_model.specs.Events.{events_of}
 use Rattle.core_model.specs.KernelWords.{kernel_code}
 use Rattle.core_model.specs.Core.{CoreState, boot_core, after_event, core_from}
-use Rattle.kernel_cli.specs.Scripts.{is_log_above, LogIsFullExactly}
+use Rattle.order_laws.specs.LongLogs.{is_log_above}
+use Rattle.kernel_cli.specs.Scripts.{LogIsFullExactly}
 
 -- Some of the events but not all leave a core whose log has more entries than this.
 record IsAboveBefore (most : ℕ) (code : List ℕ) (c : CoreState) (events : List Event) : Type 0 where

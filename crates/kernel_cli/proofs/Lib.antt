@@ -2,7 +2,10 @@ pub mod CommandWords
 pub mod CoreFacts
 pub mod ScriptFits
 pub mod Playing
+pub mod Along
+pub mod Drilling
+pub mod CountedFits
 pub mod Reporting
 pub mod FullLogs
-pub mod SoundScripts
+pub mod SoundCores
 pub mod Answering

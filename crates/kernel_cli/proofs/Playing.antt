@@ -15,7 +15,8 @@ use Rattle.core_model.specs.Loaded.{IsEventRunWithinLimits}
 use Rattle.core_model.specs.Core.{CoreState, boot_core, after_event, core_from}
 use Rattle.kernel_core.specs.Running.{entries_of}
 use Rattle.kernel_core.specs.History.{History, CoreValue, IsCoreOf, given}
-use Rattle.kernel_cli.specs.Scripts.{entries_each, is_log_above, is_script_above}
+use Rattle.order_laws.specs.LongLogs.{is_log_above}
+use Rattle.kernel_cli.specs.Scripts.{entries_each, is_script_above}
 use Rattle.kernel_cli.specs.Playing.{told_of, core_by, IsPlayed, StandsBefore}
 use Rattle.kernel_cli.proofs.CoreFacts.{without_log, from_append, event_log, events_harts, boot_harts, events_order}
 
@@ -194,7 +195,7 @@ module _ {K : Type 0} (stands : K → List Probe → Type 0) (room_of : K → �
 
   -- no event is left
   pub ends_played : (most : ℕ) (loaded : Loaded) (runs : List EventRun) (c : CoreValue K) → length runs < 1 → StandsBefore stands room_of most loaded (events_of runs) c
-      → IsPlayed stands loaded c
+      → IsPlayed stands loaded (events_of loaded.events) c
   ends_played most loaded [] c none s =
       let P : List Event → Type 0 = λ events. IsCoreOf (told_of loaded events) c in
       let Q : List Event → Type 0 = λ events. stands c.log.keeper (core_by loaded events).log in

@@ -8,7 +8,8 @@ use Rattle.core_model.specs.KernelWords.{kernel_code}
 use Rattle.core_model.specs.Loaded.{IsLoaded}
 use Rattle.core_model.specs.Core.{CoreState, boot_core, after_event}
 use Rattle.core_invariant.proofs.FewEntries.{event_few}
-use Rattle.kernel_cli.specs.Scripts.{is_log_above, is_script_above}
+use Rattle.order_laws.specs.LongLogs.{is_log_above}
+use Rattle.kernel_cli.specs.Scripts.{is_script_above}
 
 -- No log is above what eight entries for each event come to.
 pub never_above : (most : ℕ) (code : List ℕ) (c : CoreState) (events : List Event) → length c.log + 8 * length events ≤ most → is_log_above most code c events ≡ false

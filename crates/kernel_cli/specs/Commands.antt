@@ -1,16 +1,52 @@
 -- The words of the command line, and the command that they are.
-use Rattle.std.specs.Prelude.{◌≡◌, ℕ, true, false, ◌&&◌, List, [], ◌∷◌, Option, Some, None, codes, if◌then◌else◌}
+use Rattle.std.specs.Prelude.{◌≡◌, ℕ, ◌-◌, ◌≤◌, Bool, true, false, ◌&&◌, ⊤, List, [], ◌∷◌, Option, Some, None, length, codes, decimal, nat_lt, nat_le, if◌then◌else◌}
 use Rattle.std.specs.Str.{bytes_eq}
+use Rattle.timer_plan.specs.Tokens.{IsDecimal}
+use Rattle.bundle_text.specs.Numbers.{decimal_of}
 use Rattle.kernel_cli.specs.declared.command.Command.{Command}
-use Rattle.kernel_cli.specs.declared.command.Command.TheVariants.{Alone, Asm, Script, Explain}
+use Rattle.kernel_cli.specs.declared.command.Command.TheVariants.{Alone, Asm, Run, Script, Replay, Explain, Certify, Gen, Drill}
 
--- The words spell this command. Each command has one spelling.
+-- how many harts a command may ask for
+abbrev pub IsHartCount : ℕ → Type 0
+IsHartCount harts = (1 ≤ harts) × (harts ≤ 8)
+
+-- The word is 1 to `most` decimal digits of this number, from `low` to `high`. Zeros may stand first.
+pub record IsNumberIn (most low high : ℕ) (word : List ℕ) (number : ℕ) : Type 0 where
+  pub decimal : IsDecimal word number
+  pub few : length word ≤ most
+  pub least : low ≤ number
+  pub greatest : number ≤ high
+
+-- a number of 64 bits: 1 to 20 digits
+abbrev pub IsSeed : List ℕ → ℕ → Type 0
+IsSeed = IsNumberIn 20 0 18446744073709551615
+
+-- how many tasks a bundle of a number may have, 1 to 32: one digit or two
+abbrev pub IsTaskCount : List ℕ → ℕ → Type 0
+IsTaskCount = IsNumberIn 2 1 32
+
+-- The words are this one and two such numbers.
+pub record SpellsNumbers (name : List ℕ) (words : List (List ℕ)) (seed tasks : ℕ) : Type 0 where
+  pub seed_word : List ℕ
+  pub tasks_word : List ℕ
+  pub words_are : words ≡ name ∷ seed_word ∷ tasks_word ∷ []
+  pub seed_is : IsSeed seed_word seed
+  pub tasks_are : IsTaskCount tasks_word tasks
+
+-- The words spell this command. A number of harts is one decimal digit, so each command has one spelling, but for `gen` and `drill`, whose
+-- numbers may begin with zeros.
 abbrev pub SpellsCommand : List (List ℕ) → Command → Type 0
 SpellsCommand words Alone = words ≡ codes "alone" ∷ []
 SpellsCommand words Asm = words ≡ codes "asm" ∷ []
+SpellsCommand words (Run harts) = IsHartCount harts × (words ≡ codes "run" ∷ decimal harts ∷ [])
 SpellsCommand words (Script false) = words ≡ codes "script" ∷ []
 SpellsCommand words (Script true) = words ≡ codes "script" ∷ codes "probes" ∷ []
+SpellsCommand words (Replay harts false) = IsHartCount harts × (words ≡ codes "replay" ∷ decimal harts ∷ [])
+SpellsCommand words (Replay harts true) = IsHartCount harts × (words ≡ codes "replay" ∷ decimal harts ∷ codes "probes" ∷ [])
 SpellsCommand words Explain = words ≡ codes "explain" ∷ []
+SpellsCommand words Certify = words ≡ codes "certify" ∷ []
+SpellsCommand words (Gen seed tasks) = SpellsNumbers (codes "gen") words seed tasks
+SpellsCommand words (Drill seed tasks) = SpellsNumbers (codes "drill") words seed tasks
 
 -- the command of one word
 abbrev pub command_named : List ℕ → Option Command
@@ -19,14 +55,111 @@ command_named word =
     else if bytes_eq word (codes "asm") then Some Asm
     else if bytes_eq word (codes "script") then Some (Script false)
     else if bytes_eq word (codes "explain") then Some Explain
+    else if bytes_eq word (codes "certify") then Some Certify
     else None
+
+-- the number of harts of a word: of `1` to `8`, whose codes are 49 to 56
+abbrev pub count_of_code : ℕ → Option ℕ
+count_of_code code = if nat_lt 48 code && nat_lt code 57 then Some (code - 48) else None
+
+abbrev pub hart_count : List ℕ → Option ℕ
+hart_count (code ∷ []) = count_of_code code
+hart_count _ = None
+
+-- a run and a replay by so many harts
+abbrev pub run_by : Option ℕ → Option Command
+run_by None = None
+run_by (Some harts) = Some (Run harts)
+
+abbrev pub replay_by : Option ℕ → Bool → Option Command
+replay_by None probes = None
+replay_by (Some harts) probes = Some (Replay harts probes)
 
 -- the command of two words
 abbrev pub command_detailed : List ℕ → List ℕ → Option Command
-command_detailed word detail = if bytes_eq word (codes "script") && bytes_eq detail (codes "probes") then Some (Script true) else None
+command_detailed word detail =
+    if bytes_eq word (codes "run") then run_by (hart_count detail)
+    else if bytes_eq word (codes "replay") then replay_by (hart_count detail) false
+    else if bytes_eq word (codes "script") && bytes_eq detail (codes "probes") then Some (Script true)
+    else None
+
+-- the number, if it is one and in the range
+abbrev pub within : ℕ → ℕ → Option ℕ → Option ℕ
+within low high None = None
+within low high (Some number) = if nat_le low number && nat_le number high then Some number else None
+
+-- the number of a word of at most so many decimal digits, if it is in the range
+abbrev pub number_in : ℕ → ℕ → ℕ → List ℕ → Option ℕ
+number_in most low high word = if nat_lt most (length word) then None else within low high (decimal_of word)
+
+-- the bundle of a seed, with so many tasks
+abbrev pub gen_by : Option ℕ → Option ℕ → Option Command
+gen_by None tasks = None
+gen_by (Some seed) None = None
+gen_by (Some seed) (Some tasks) = Some (Gen seed tasks)
+
+abbrev pub gen_of : List ℕ → List ℕ → Option Command
+gen_of seed tasks = gen_by (number_in 20 0 18446744073709551615 seed) (number_in 2 1 32 tasks)
+
+-- and its run
+abbrev pub drill_by : Option ℕ → Option ℕ → Option Command
+drill_by None tasks = None
+drill_by (Some seed) None = None
+drill_by (Some seed) (Some tasks) = Some (Drill seed tasks)
+
+abbrev pub drill_of : List ℕ → List ℕ → Option Command
+drill_of seed tasks = drill_by (number_in 20 0 18446744073709551615 seed) (number_in 2 1 32 tasks)
+
+-- the command of three words of which the last is `probes`
+abbrev pub command_with_probes : List ℕ → List ℕ → List ℕ → Option Command
+command_with_probes word detail more =
+    if bytes_eq word (codes "replay") && bytes_eq more (codes "probes") then replay_by (hart_count detail) true else None
+
+-- the command of three words
+abbrev pub command_of_three : List ℕ → List ℕ → List ℕ → Option Command
+command_of_three word detail more =
+    if bytes_eq word (codes "gen") then gen_of detail more
+    else if bytes_eq word (codes "drill") then drill_of detail more
+    else command_with_probes word detail more
 
 -- the command of the words, if they spell one
 abbrev pub command_of : List (List ℕ) → Option Command
 command_of (word ∷ []) = command_named word
 command_of (word ∷ detail ∷ []) = command_detailed word detail
+command_of (word ∷ detail ∷ more ∷ []) = command_of_three word detail more
 command_of _ = None
+
+-- how many harts a command loads its bundle for
+abbrev pub harts_of : Command → ℕ
+harts_of (Run harts) = harts
+harts_of (Replay harts probes) = harts
+harts_of (Drill seed tasks) = 1
+harts_of command = 8
+
+-- whether a command reads the source; words that are no command don't
+abbrev pub reads_source : Option Command → Bool
+reads_source None = false
+reads_source (Some (Gen seed tasks)) = false
+reads_source (Some (Drill seed tasks)) = false
+reads_source (Some command) = true
+
+-- The command of the words, if one thread does it, and if threads do it, one for each hart.
+abbrev pub served_by_one : Option Command → Option Command
+served_by_one (Some (Run harts)) = None
+served_by_one command = command
+
+abbrev pub served_by_threads : Option Command → Option Command
+served_by_threads (Some (Run harts)) = Some (Run harts)
+served_by_threads command = None
+
+-- whether a command finds nothing beside its bundle
+abbrev pub finds_nothing : Command → Bool
+finds_nothing (Run harts) = false
+finds_nothing Certify = false
+finds_nothing (Drill seed tasks) = false
+finds_nothing command = true
+
+-- a command that runs the bundle of a number runs one of 1 to 32 tasks
+abbrev pub HasTasks : Command → Type 0
+HasTasks (Drill seed tasks) = (1 ≤ tasks) × (tasks ≤ 32)
+HasTasks command = ⊤

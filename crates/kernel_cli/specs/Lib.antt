@@ -3,8 +3,12 @@ pub mod Statuses
 pub mod AloneTasks
 pub mod Refusals
 pub mod Scripts
+pub mod Replays
+pub mod Findings
 pub mod Playing
+pub mod Drills
 pub mod Answer
 pub mod Soundness
+pub mod Found
 pub mod Outcome
 pub mod TopCall

@@ -60,3 +60,7 @@ load_refusal (load.Limit counted got) = codes "limit " ++ (what_text counted ++ 
 load_refusal (load.PlanForMissingHart hart) = codes "plan for missing hart " ++ (decimal hart ++ codes "\n")
 load_refusal (load.TooLong bound) = codes "too long " ++ (decimal bound ++ codes "\n")
 load_refusal load.Memory = []
+
+-- an entry of the order, at this place from 0, that isn't legal
+abbrev pub order_refusal : ℕ → List ℕ
+order_refusal at = codes "order " ++ (decimal at ++ codes ": bad\n")

@@ -1,30 +1,37 @@
--- What the core of a bundle comes to by the bundle's list of events, and whether its log can be kept.
-use Rattle.std.specs.Prelude.{◌≡◌, ◌↔◌, ℕ, ◌<◌, Bool, true, false, ◌||◌, List, [], ◌∷◌, ◌++◌, length, nat_lt}
+-- What the core of a bundle comes to by a list of events, and whether its log can be kept.
+use Rattle.std.specs.Prelude.{◌≡◌, ◌↔◌, ℕ, ◌<◌, Bool, true, List, ◌∷◌, ◌++◌, length}
 use Rattle.hart_model.specs.declared.probe.Probe.{Probe}
 use Rattle.core_model.specs.declared.event.Event.{Event}
 use Rattle.core_model.specs.declared.loaded.Loaded.{Loaded}
 use Rattle.core_model.specs.Events.{events_of}
 use Rattle.core_model.specs.KernelWords.{kernel_code}
-use Rattle.core_model.specs.Core.{CoreState, boot_core, after_event, core_after, log_of}
+use Rattle.core_model.specs.Core.{boot_core, core_after, log_of}
+use Rattle.order_laws.specs.LongLogs.{is_log_above}
 use Rattle.kernel_core.specs.Snapshots.{snapshot_of}
 use Rattle.report_text.specs.Report.{report_of}
 
--- the report of the core after all events of the bundle
-abbrev pub script_report : Loaded → List ℕ
-script_report loaded = report_of (snapshot_of (length loaded.tasks) (core_after loaded kernel_code (events_of loaded.events)))
+-- the report of the core after these events
+abbrev pub report_by : Loaded → List Event → List ℕ
+report_by loaded events = report_of (snapshot_of (length loaded.tasks) (core_after loaded kernel_code events))
 
--- the log of all events of the bundle
+-- the log of these events
+abbrev pub log_by : Loaded → List Event → List Probe
+log_by loaded events = log_of loaded kernel_code events
+
+-- the report of the core after all events of the bundle, and their log
+abbrev pub script_report : Loaded → List ℕ
+script_report loaded = report_by loaded (events_of loaded.events)
+
 abbrev pub script_log : Loaded → List Probe
-script_log loaded = log_of loaded kernel_code (events_of loaded.events)
+script_log loaded = log_by loaded (events_of loaded.events)
 
 -- how much of its room a keeper has to have left before an event
 abbrev pub entries_each : ℕ
 entries_each = 6
 
--- Before one of the events the log has more entries than this.
-unfoldable pub is_log_above : ℕ → List ℕ → CoreState → List Event → Bool
-is_log_above most code c [] = false
-is_log_above most code c (event ∷ events) = nat_lt most (length c.log) || is_log_above most code (after_event code c event) events
+-- A log that is kept has room for 1,000,000 entries, so before an event it may have this many.
+abbrev pub most_before : ℕ
+most_before = 999994
 
 -- Before one of the events of the bundle the log has more entries than this.
 abbrev pub is_script_above : ℕ → Loaded → Bool
@@ -32,7 +39,7 @@ is_script_above most loaded = is_log_above most kernel_code.words (boot_core loa
 
 -- The log is full: before one of the events it has more than 999,994 entries, so that of its room for 1,000,000 fewer than six are left.
 abbrev pub is_log_full : Loaded → Bool
-is_log_full loaded = is_script_above 999994 loaded
+is_log_full loaded = is_script_above most_before loaded
 
 -- The events of the bundle are a front, one event more and a rest, and the log of the front has more than 999,994 entries.
 pub record HasLongLog (loaded : Loaded) : Type 0 where
@@ -40,7 +47,7 @@ pub record HasLongLog (loaded : Loaded) : Type 0 where
   pub event : Event
   pub rest : List Event
   pub parts : events_of loaded.events ≡ front ++ event ∷ rest
-  pub long : 999994 < length (log_of loaded kernel_code front)
+  pub long : most_before < length (log_of loaded kernel_code front)
 
 -- The log is full exactly where some beginning of the bundle's events, short of all of them, has a log of more than 999,994 entries.
 abbrev pub LogIsFullExactly : Type 0

@@ -1,5 +1,6 @@
 -- What holds of the core that a command runs.
-use Rattle.std.specs.Prelude.{◌≡◌, ℕ, ◌≤◌, ⊤, List, length, take, Option, Some, Ok}
+use Rattle.std.specs.Prelude.{◌≡◌, ℕ, ◌≤◌, ⊤, List, length, take, Ok}
+use Rattle.core_model.specs.declared.event.Event.{Event}
 use Rattle.core_model.specs.declared.loaded.Loaded.{Loaded}
 use Rattle.core_model.specs.Events.{events_of}
 use Rattle.core_model.specs.KernelWords.{kernel_code}
@@ -9,36 +10,56 @@ use Rattle.core_invariant.specs.Homes.{HasExactHomes}
 use Rattle.core_invariant.specs.Outputs.{AreOutputsSound}
 use Rattle.bundle_text.specs.declared.bundle.Bundle.{Bundle}
 use Rattle.bundle_text.specs.Lines.{bundle_of}
+use Rattle.masked_gen.specs.Generator.{generated}
 use Rattle.rv_loader.specs.Loading.{loading_of}
-use Rattle.kernel_cli.specs.Answer.{harts, input_limit}
+use Rattle.kernel_cli.specs.Commands.{IsHartCount}
+use Rattle.kernel_cli.specs.Findings.{Finding, order_in}
+use Rattle.kernel_cli.specs.Replays.{order_events, replay_events}
+use Rattle.kernel_cli.specs.Answer.{input_limit}
 use Rattle.kernel_cli.specs.declared.command.Command.{Command}
-use Rattle.kernel_cli.specs.declared.command.Command.TheVariants.{Script, Explain}
+use Rattle.kernel_cli.specs.declared.command.Command.TheVariants.{Run, Script, Replay, Explain, Drill}
 
--- the command runs the core of the bundle by its list of events
-abbrev pub RunsCore : Option Command → Type 0
-RunsCore (Some (Script probes)) = ⊤
-RunsCore (Some Explain) = ⊤
+-- The command runs the core of the bundle: by the bundle's list of events, by its order, or by the order that the harts make.
+abbrev pub RunsCore : Command → Type 0
+RunsCore (Run harts) = ⊤
+RunsCore (Script probes) = ⊤
+RunsCore (Replay harts probes) = ⊤
+RunsCore Explain = ⊤
+RunsCore (Drill seed tasks) = ⊤
 RunsCore command = ⊥
 
--- The bytes are read as a bundle, which loads as this.
-pub record LoadAs (bytes : List ℕ) (loaded : Loaded) : Type 0 where
+-- the events that it runs the core by
+abbrev pub events_by : Command → Finding → Loaded → List Event
+events_by (Run harts) found loaded = order_events loaded (order_in found)
+events_by (Replay harts probes) found loaded = replay_events loaded
+events_by (Drill seed tasks) found loaded = order_events loaded (order_in found)
+events_by command found loaded = events_of loaded.events
+
+-- The bytes are read as a bundle, which loads for so many harts as this.
+pub record LoadAs (harts : ℕ) (bytes : List ℕ) (loaded : Loaded) : Type 0 where
   pub within : length bytes ≤ input_limit
   pub bundle : Bundle
   pub reads : bundle_of bytes ≡ Ok bundle
   pub loads : loading_of bundle harts ≡ Ok loaded
 
--- the core of a loaded bundle after so many of its events
-abbrev pub core_at : Loaded → ℕ → CoreState
-core_at loaded count = core_after loaded kernel_code (take count (events_of loaded.events))
+-- the core of a loaded bundle after so many of these events
+abbrev pub core_at : Loaded → List Event → ℕ → CoreState
+core_at loaded events count = core_after loaded kernel_code (take count events)
 
--- After any number of the events of the bundle: no slot and no hart has two tasks, each ready context stands for its task, a hart in user
--- mode is where the undisturbed run of its task is, and each entry of the log is public or shows a value or a change of one task's
--- undisturbed run; each task has exactly one home; and what a task has put out is a beginning of its output alone.
-pub record IsScriptSound (loaded : Loaded) : Type 0 where
-  pub sound : (count : ℕ) → IsCoreSound loaded (core_at loaded count)
-  pub homes : (count : ℕ) → HasExactHomes (length loaded.tasks) (core_at loaded count).board
-  pub outputs : (count : ℕ) → AreOutputsSound loaded (core_at loaded count)
+-- After any number of these events: no slot and no hart has two tasks, each ready context stands for its task, a hart in user mode is where
+-- the undisturbed run of its task is, and each entry of the log is public or shows a value or a change of one task's undisturbed run; each
+-- task has exactly one home; and what a task has put out is a beginning of its output alone.
+pub record IsRunSound (loaded : Loaded) (events : List Event) : Type 0 where
+  pub sound : (count : ℕ) → IsCoreSound loaded (core_at loaded events count)
+  pub homes : (count : ℕ) → HasExactHomes (length loaded.tasks) (core_at loaded events count).board
+  pub outputs : (count : ℕ) → AreOutputsSound loaded (core_at loaded events count)
 
--- So it is of every bundle that bytes are read and loaded as.
-abbrev pub AreScriptsSound : Type 0
-AreScriptsSound = (bytes : List ℕ) (loaded : Loaded) → LoadAs bytes loaded → IsScriptSound loaded
+-- So it is of every bundle that bytes are read and loaded as, for any number of harts and by any events.
+abbrev pub AreCoresSound : Type 0
+AreCoresSound = (harts : ℕ) → IsHartCount harts → (bytes : List ℕ) (loaded : Loaded) → LoadAs harts bytes loaded
+    → (events : List Event) → IsRunSound loaded events
+
+-- And of what the bundle of every number loads as for one hart.
+abbrev pub AreGeneratedCoresSound : Type 0
+AreGeneratedCoresSound = (seed tasks : ℕ) → tasks ≤ 32 → (loaded : Loaded) → loading_of (generated seed tasks) 1 ≡ Ok loaded
+    → (events : List Event) → IsRunSound loaded events

@@ -1,11 +1,12 @@
 -- What is said of statuses.
 use Rattle.std.specs.Prelude.{ℕ, ⊤}
 use Rattle.kernel_cli.specs.declared.status.Status.{Status}
-use Rattle.kernel_cli.specs.declared.status.Status.TheVariants.{Fine, BadWords, BadInput, ReadFault, WriteFault, Memory, LogFull}
+use Rattle.kernel_cli.specs.declared.status.Status.TheVariants.{Fine, Verdict, BadWords, BadInput, ReadFault, WriteFault, Memory, LogFull}
 
 -- the number that the program ends with
 abbrev pub number_of : Status → ℕ
 number_of Fine = 0
+number_of Verdict = 1
 number_of BadWords = 2
 number_of BadInput = 3
 number_of ReadFault = 4

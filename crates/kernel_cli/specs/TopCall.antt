@@ -1,13 +1,19 @@
 -- What the top call promises, for each status that it may have.
-use Rattle.std.specs.Prelude.{◌≡◌, ◌≢◌, ◌⊎◌, ℕ, ◌+◌, ◌<◌, List, Option, Some, None, IfSome, length, take, drop}
+use Rattle.std.specs.Prelude.{◌≡◌, ◌⊎◌, true, false, ⊤, ℕ, ◌+◌, ◌<◌, ◌≤◌, List, Option, Some, None, IfSome, length, take, drop, slice_get}
 use Rattle.std.specs.Io.KnownBytes.{Appends, IsAtEnd}
 use Rattle.io_edge.specs.Causes.{Rose, ConsumesAtMost}
+use Rattle.isa_model.specs.declared.task.Task.{Task}
 use Rattle.kernel_cli.specs.declared.command.Command.{Command}
+use Rattle.kernel_cli.specs.declared.command.Command.TheVariants.{Certify}
 use Rattle.kernel_cli.specs.declared.status.Status.{Status}
-use Rattle.kernel_cli.specs.declared.status.Status.TheVariants.{Fine, BadWords, BadInput, ReadFault, WriteFault, Memory, LogFull}
+use Rattle.kernel_cli.specs.declared.status.Status.TheVariants.{Fine, Verdict, BadWords, BadInput, ReadFault, WriteFault, Memory, LogFull}
 use Rattle.kernel_cli.specs.Answer.{answer_of, words_refused, input_limit}
 use Rattle.core_model.specs.declared.loaded.Loaded.{Loaded}
-use Rattle.kernel_cli.specs.Soundness.{RunsCore, LoadAs, IsScriptSound}
+use Rattle.kernel_cli.specs.Commands.{harts_of, reads_source}
+use Rattle.kernel_cli.specs.Outcome.{IsLoadedFrom}
+use Rattle.kernel_cli.specs.Findings.{Finding}
+use Rattle.kernel_cli.specs.Found.{IsFound, Loads, IsSecureEverywhere}
+use Rattle.kernel_cli.specs.Soundness.{RunsCore, events_by, LoadAs, IsRunSound}
 use Rattle.kernel_cli.specs.Statuses.{IsRefusal}
 
 -- The bytes are those that were left, where the source tells them.
@@ -15,10 +21,12 @@ abbrev pub WereLeft : List ℕ → Option (List ℕ) → Type 0
 WereLeft bytes left = IfSome left (λ told. bytes ≡ told)
 
 -- The answer to the command, over the bytes that were left, has this status, and known bytes grow by its text. Where the
--- source doesn't tell its bytes, it is the answer over some bytes.
+-- source doesn't tell its bytes, it is the answer over some bytes. It is the answer over what the command finds: for `run` an order that its
+-- harts may make, for `certify` the verdict.
 abbrev pub Answers : Option Command → Status → Option (List ℕ) → Option (List ℕ) → Option (List ℕ) → Type 0
 Answers command status left held held' =
-    (bytes : List ℕ) × WereLeft bytes left × ((answer_of command bytes).status ≡ status) × Appends held held' (answer_of command bytes).text
+    (bytes : List ℕ) × (found : Finding) × WereLeft bytes left × IsFound command bytes found
+    × ((answer_of command found bytes).status ≡ status) × Appends held held' (answer_of command found bytes).text
 
 -- Known bytes grow by a front of the text that isn't all of it.
 abbrev pub AppendsPart : Option (List ℕ) → Option (List ℕ) → List ℕ → Type 0
@@ -33,7 +41,8 @@ WritesOrFails asked held held' faults faults' text status =
 abbrev pub BeginsToAnswer : Option Command → Option (List ℕ) → Option (List ℕ) → Option (List ℕ) → Type 0
 BeginsToAnswer None left held held' = AppendsPart held held' words_refused.text
 BeginsToAnswer (Some command) left held held' =
-    (bytes : List ℕ) × WereLeft bytes left × AppendsPart held held' (answer_of (Some command) bytes).text
+    (bytes : List ℕ) × (found : Finding) × WereLeft bytes left × IsFound (Some command) bytes found
+    × AppendsPart held held' (answer_of (Some command) found bytes).text
 
 -- More bytes than the limit were left, and one more than the limit was taken.
 abbrev pub IsTooLarge : Option (List ℕ) → Option (List ℕ) → Type 0
@@ -43,9 +52,37 @@ IsTooLarge left left' = IfSome left (λ bytes. (input_limit < length bytes) × (
 abbrev pub WasRead : Option (List ℕ) → Option (List ℕ) → Type 0
 WasRead left left' = IsAtEnd left' ⊎ IsTooLarge left left'
 
--- Whatever bytes were left that load: the core that they load as is sound after any number of its events.
-abbrev pub IsCoreSoundOf : Option (List ℕ) → Type 0
-IsCoreSoundOf left = (bytes : List ℕ) (loaded : Loaded) → WereLeft bytes left → LoadAs bytes loaded → IsScriptSound loaded
+-- So it was, if the command reads it: to its end, and to its end or past the limit.
+abbrev pub IsReadOut : Option Command → Option (List ℕ) → Type 0
+IsReadOut command left' = reads_source command ≡ true → IsAtEnd left'
+
+abbrev pub WasReadFor : Option Command → Option (List ℕ) → Option (List ℕ) → Type 0
+WasReadFor command left left' = reads_source command ≡ true → WasRead left left'
+
+-- Whatever bytes were left that load for the harts of a command: the core that they load as is sound after any number of the events that the
+-- command runs it by, whatever it finds.
+abbrev pub IsCoreSoundOf : Command → Option (List ℕ) → Type 0
+IsCoreSoundOf command left = (bytes : List ℕ) (loaded : Loaded) → WereLeft bytes left → Loads command bytes loaded
+    → (found : Finding) → IsRunSound loaded (events_by command found loaded)
+
+-- where the command runs a core
+abbrev pub IsCoreSoundFor : Option Command → Option (List ℕ) → Type 0
+IsCoreSoundFor None left = ⊤
+IsCoreSoundFor (Some command) left = RunsCore command → IsCoreSoundOf command left
+
+-- Whatever bytes were left and told, that load: the first task is secure by one probe in the bundle's worlds, alone and in every core.
+abbrev pub IsFirstTaskSecure : Option (List ℕ) → Type 0
+IsFirstTaskSecure left = IfSome left (λ bytes. (loaded : Loaded) → LoadAs (harts_of Certify) bytes loaded
+    → (T : Task) → slice_get loaded.tasks 0 ≡ Some T → IsSecureEverywhere T loaded.worlds)
+
+-- The bytes that were left loaded for so many harts as this, and the source was read to its end.
+pub record WasLoaded (harts : ℕ) (left left' : Option (List ℕ)) (loaded : Loaded) : Type 0 where
+  pub bytes : List ℕ
+  pub were : WereLeft bytes left
+  pub within : length bytes ≤ input_limit
+  pub from : IsLoadedFrom harts bytes loaded
+  pub end : IsAtEnd left'
+  pub taken : ConsumesAtMost left left' (input_limit + 1)
 
 -- The call has ended with this status. It found the source and the sink as `src` and `sink` and leaves them as `src'` and
 -- `sink'`. A source has bytes left, which it may tell, a sink holds bytes, which it may tell, and both count their faults.
@@ -53,17 +90,25 @@ pub record IsAnswered {S K : Type 0} (left : S → Option (List ℕ)) (read_faul
     (command : Option Command) (src src' : S) (sink sink' : K) (status : Status) : Type 0 where
   -- words that are no command are refused before the source is touched
   pub refused : command ≡ None → (src' ≡ src) × IsRefusal status
+  -- a command that doesn't read leaves the source as it is
+  pub unread : reads_source command ≡ false → src' ≡ src
   pub bad_words : status ≡ BadWords → (command ≡ None) × Appends (held sink) (held sink') words_refused.text
-  -- the answer is written, and the source was read to its end, but for input that is too large
-  pub fine : status ≡ Fine → IsAtEnd (left src') × Answers command Fine (left src) (held sink) (held sink')
+  -- The answer is written. The source was read to its end, but for input that is too large, and for a command that doesn't read, which ends
+  -- fine whatever the bytes are.
+  pub fine : status ≡ Fine → IsReadOut command (left src') × Answers command Fine (left src) (held sink) (held sink')
   pub bad_input : status ≡ BadInput → WasRead (left src) (left src') × Answers command BadInput (left src) (held sink) (held sink')
   pub log_full : status ≡ LogFull → IsAtEnd (left src') × Answers command LogFull (left src) (held sink) (held sink')
-  -- a fault comes only where the source or the sink counted one; the whole text is made before any of it is written
-  pub read_fault : status ≡ ReadFault → Rose (read_faults src) (read_faults src') × (command ≢ None) × (sink' ≡ sink)
+  pub verdict : status ≡ Verdict → IsAtEnd (left src') × Answers command Verdict (left src) (held sink) (held sink')
+  -- a fault comes only where the source or the sink counted one, a read fault only of a command that reads; the whole text is made before any
+  -- of it is written
+  pub read_fault : status ≡ ReadFault → Rose (read_faults src) (read_faults src') × (reads_source command ≡ true) × (sink' ≡ sink)
   pub write_fault : status ≡ WriteFault → Rose (write_faults sink) (write_faults sink')
-      × BeginsToAnswer command (left src) (held sink) (held sink') × (command ≢ None → WasRead (left src) (left src'))
+      × BeginsToAnswer command (left src) (held sink) (held sink') × WasReadFor command (left src) (left src')
   pub memory : status ≡ Memory → sink' ≡ sink
-  -- a core that was run, to the end of its events or until its log was full, was sound all the way
-  pub scripts_sound : RunsCore command → (status ≡ Fine) ⊎ (status ≡ LogFull) → IsCoreSoundOf (left src)
+  -- A core that the command runs is sound all the way. This is a law about the definitions, whatever the call does; by the answer above it
+  -- is said of the core whose report and log are written.
+  pub cores_sound : IsCoreSoundFor command (left src)
+  -- where `certify` ends fine, its task tells nothing of the secret by one probe: alone, and in the log of every core that runs it
+  pub certified : command ≡ Some Certify → status ≡ Fine → IsFirstTaskSecure (left src)
   -- whatever the status, at most one byte past the limit is taken
   pub taken : ConsumesAtMost (left src) (left src') (input_limit + 1)

@@ -3,12 +3,15 @@
 ghost use Rattle.std.specs.Prelude.{◌≡◌, ◌↔◌, ℕ, List, Some};
 ghost use Rattle.kernel_cli.specs.Commands.{SpellsCommand, command_of};
 ghost use Rattle.kernel_cli.specs.Scripts.{LogIsFullExactly};
-ghost use Rattle.kernel_cli.specs.Soundness.{AreScriptsSound};
+ghost use Rattle.kernel_cli.specs.Soundness.{AreCoresSound, AreGeneratedCoresSound};
+ghost use Rattle.kernel_cli.specs.Found.{SecureTasksStaySecure};
 ghost use Rattle.kernel_cli.specs.declared.command.Command.{Command};
 
 use core_invariant::{
     core_stays_sound, each_task_has_one_home, emitted_is_kernel, outputs_stay_beginnings,
 };
+use noninterference::emitted_is_alike;
+use probing_laws::security_transfers;
 use rv_loader::loading_is_sound;
 
 /// The function that decides the words gives exactly the command that they spell.
@@ -21,10 +24,32 @@ pub fn log_is_full_exactly()
     ensures full { LogIsFullExactly }
 {}
 
-/// The core of every bundle that bytes are read and loaded as is sound after any number of the bundle's events, each task has exactly
-/// one home in it, and what a task has put out is a beginning of its output alone.
-pub fn scripts_are_sound()
-    ensures sound { AreScriptsSound }
+/// The core of every bundle that bytes are read as and that loads for some number of harts from 1 to 8 is sound after every list of events,
+/// each task has exactly one home in it, and what a task has put out is a beginning of its output alone.
+pub fn cores_are_sound()
+    ensures sound { AreCoresSound }
+{
+    loading_is_sound();
+    core_stays_sound();
+    outputs_stay_beginnings();
+    each_task_has_one_home();
+    emitted_is_kernel();
+}
+
+/// A task that is secure by one probe in its run alone, in the worlds of whatever bundle bytes are read as and that loads for some number of
+/// harts from 1 to 8, is so in every core that runs it: beside any other tasks and after every list of events.
+pub fn secure_tasks_stay_secure()
+    ensures secure { SecureTasksStaySecure }
+{
+    loading_is_sound();
+    security_transfers();
+    emitted_is_kernel();
+    emitted_is_alike();
+}
+
+/// So is the core of the bundle of every number, with at most 32 tasks and loaded for one hart.
+pub fn generated_cores_are_sound()
+    ensures sound { AreGeneratedCoresSound }
 {
     loading_is_sound();
     core_stays_sound();

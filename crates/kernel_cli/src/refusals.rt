@@ -1,7 +1,7 @@
 //! The lines that refuse an input.
 
 ghost use Rattle.std.specs.Prelude.{◌≡◌, IfOk, string_bytes};
-ghost use Rattle.kernel_cli.specs.Refusals.{bundle_kind_text, bundle_refusal, asm_kind_text, asm_refusal, what_text, load_refusal};
+ghost use Rattle.kernel_cli.specs.Refusals.{bundle_kind_text, bundle_refusal, asm_kind_text, asm_refusal, what_text, load_refusal, order_refusal};
 
 use asm_line::AsmKind;
 use bundle_text::{BundleFault, BundleKind};
@@ -92,4 +92,11 @@ pub(crate) fn load_refusal(alloc: Global, fault: &LoadFault) -> Result<String, A
         LoadFault::TooLong { bound } => format!(in alloc; "too long {bound}\n"),
         LoadFault::Memory => Ok(String::new(alloc)),
     }
+}
+
+/// The line that refuses an order whose entry at this place, from 0, isn't legal.
+pub(crate) fn order_refusal(alloc: Global, at: u64) -> Result<String, AllocError>
+    ensures text { IfOk result (λ text. string_bytes text ≡ order_refusal at) }
+{
+    format!(in alloc; "order {at}: bad\n")
 }

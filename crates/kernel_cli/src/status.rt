@@ -6,13 +6,16 @@ ghost use Rattle.kernel_cli.specs.Statuses.{number_of};
 /// How a call of the program ended.
 #[derive(Clone, Copy, Debug, PartialEq, Eq)]
 pub enum Status {
-    /// The input was read to its end, and the text of the command is written.
+    /// The text of the command is written. The input was read to its end, but by `gen`, which doesn't read.
     Fine,
+    /// The input was read to its end, and the line is written that says why its task isn't certified: two worlds take different courses, or a
+    /// latch write tells something of the secret.
+    Verdict,
     /// The words are no command.
     BadWords,
     /// The input is too large, or can't be read as a bundle.
     BadInput,
-    /// The source counted a fault; nothing is written.
+    /// The source counted a fault, of a command that reads; nothing is written.
     ReadFault,
     /// The sink counted a fault; what is written is a front of the text.
     WriteFault,
@@ -28,6 +31,7 @@ pub fn status_number(status: Status) -> u8
 {
     match status {
         Status::Fine => 0,
+        Status::Verdict => 1,
         Status::BadWords => 2,
         Status::BadInput => 3,
         Status::ReadFault => 4,

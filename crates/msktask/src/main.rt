@@ -10,11 +10,17 @@ use std::{env, io};
 /// The commands, one a line.
 const USAGE: &str = "\
 usage: msktask COMMAND
-  alone          runs each task of the bundle on standard input by itself
-  asm            lists the code of each task of the bundle
-  script         runs the harts of the kernel by the events of the bundle
-  script probes  the same, with every entry of the log before the report
-  explain        the same, with each entry that isn't public and what it shows
+  alone            runs each task of the bundle on standard input by itself
+  asm              lists the code of each task of the bundle
+  run H            runs H harts of the kernel, 1 to 8, on threads, until all tasks have ended
+  script           runs 8 harts by the events of the bundle
+  script probes    the same, with every entry of the log before the report
+  replay H         runs H harts by the order of the bundle and their plans
+  replay H probes  the same, with every entry of the log before the report
+  certify          judges the first task of the bundle in the bundle's worlds
+  explain          as script, with each entry that isn't public and what it shows
+  gen SEED N       writes the bundle of N masked tasks, 1 to 32, that the number SEED gives; reads no bundle
+  drill SEED N     runs that bundle on one hart until it finds nothing; reads no bundle
 ";
 
 /// The status of arguments that can't be had: want of memory, or words that are no text.

@@ -1,27 +1,33 @@
--- The refusal of input that is too large, and the answer to other input.
-use Rattle.std.proofs.Common.{◌≡◌, ◌≤◌, ℕ, List, length, Err, ap, arith, subst}
-use Rattle.bundle_text.specs.Lines.{bundle_of}
-use Rattle.kernel_cli.specs.Answer.{bundle_answer}
-use Rattle.kernel_cli.specs.Outcome.{IsAnswer}
-use Rattle.kernel_cli.proofs.Answering.{answered_too_large, answered_made}
+-- The end of a command over a bundle that loads.
+use Rattle.std.proofs.Common.{sym, subst}
+use Rattle.kernel_cli.specs.TopCall.{WritesOrFails, IsAnswered}
+use Rattle.kernel_cli.specs.Outcome.{status_of}
+use Rattle.kernel_cli.specs.declared.status.Status.TheVariants.{Memory}
+use Rattle.std.specs.Prelude.{Some}
+use Rattle.kernel_cli.proofs.SoundCores.{core_sound_for}
+use Rattle.kernel_cli.proofs.Answering.{answered_loaded, answered_without_memory}
 use Rattle.kernel_cli.proofs.top.do_command.Goals as goal
 
-pub returns-in-Err-TooLarge : goal.returns-in-Err-TooLarge
-returns-in-Err-TooLarge g c =
-    let large = c.in-Err-TooLarge.ensures.too_large (ap (λ x. Err x) c.in-Err-TooLarge.field-0-is) in
-    record { answered = answered_too_large g.S.Source.left g.S.Source.faults g.K.Sink.held g.K.Sink.faults _ _ _ _ _ _ large c.read_all.ensures.taken c.put.ensures.written }
+pub returns-in-Err-answer_loaded : goal.returns-in-Err-answer_loaded
+returns-in-Err-answer_loaded g c = record {
+  answered = subst (λ (k : g.row.K.Denot). IsAnswered g.S.Source.left g.S.Source.faults g.K.Sink.held g.K.Sink.faults (Some c.args.command) c.args.src.now c.load_input.new.src c.args.sink.now k Memory)
+      (sym c.in-Ok.ensures.kept)
+      (answered_without_memory g.S.Source.left g.S.Source.faults g.K.Sink.held g.K.Sink.faults c.args.command c.args.src.now c.load_input.new.src c.args.sink.now
+      c.in-Ok.ensures.loaded.taken c.requires.reads (core_sound_for c.cores_are_sound.ensures.sound c.args.command c.requires.harts c.requires.reads (g.S.Source.left c.args.src.now)));
+}
 
 pub returns : goal.returns
 returns g c =
-    let value = c.as_slice.ensures.value in
-    let same : length c.as_slice.result.now ≡ length c.in-Ok.bytes.items = ap (λ (bytes : List ℕ). length bytes) value in
-    let len = c.as_slice.ensures.len in
-    let limit = c.in-Ok.ensures.within in
-    let within : length c.in-Ok.bytes.items ≤ 4194304 = omega arith in
-    let P : List ℕ → Type 0 = λ bytes. IsAnswer c.in-Ok-answer.response (bundle_answer c.args.command (bundle_of bytes)) in
-    let answer = subst P value c.in-Ok-answer.ensures.answer in
+    let W : g.row.K.Denot → Type 0 = λ k. WritesOrFails (status_of c.in-Ok-answer_loaded.response.outcome) (g.K.Sink.held k) (g.K.Sink.held c.put_answer.new.sink)
+    (g.K.Sink.faults k) (g.K.Sink.faults c.put_answer.new.sink) c.in-Ok-answer_loaded.response.text.items c.put_answer.result in
+    let found = c.in-Ok-answer_loaded.ensures.answer in
     record {
-      answered = answered_made g.S.Source.left g.S.Source.faults g.K.Sink.held g.K.Sink.faults _ _ _ _ _ _ c.in-Ok.bytes.items c.in-Ok-answer.response
-          c.in-Ok.ensures.all within c.in-Ok.ensures.end c.read_all.ensures.taken answer c.put_answer.ensures.written
-          c.scripts_are_sound.ensures.sound;
+      answered = answered_loaded g.S.Source.left g.S.Source.faults g.K.Sink.held g.K.Sink.faults c.args.command c.args.src.now c.load_input.new.src c.args.sink.now
+          c.put_answer.new.sink c.put_answer.result c.in-Ok.loaded found.0 c.in-Ok-answer_loaded.response c.in-Ok.ensures.loaded found.1 found.2
+          (subst W c.in-Ok.ensures.kept c.put_answer.ensures.written)
+          (record {
+            reads = c.requires.reads;
+            cores = core_sound_for c.cores_are_sound.ensures.sound c.args.command c.requires.harts c.requires.reads (g.S.Source.left c.args.src.now);
+            securing = c.secure_tasks_stay_secure.ensures.secure;
+          });
     }

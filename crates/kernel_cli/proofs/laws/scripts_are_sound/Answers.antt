@@ -1,9 +1,0 @@
--- By the laws of the core and of loading.
-use Rattle.kernel_cli.proofs.SoundScripts.{scripts_are_sound}
-use Rattle.kernel_cli.proofs.laws.scripts_are_sound.Goals as goal
-
-pub returns : goal.returns
-returns c = record {
-  sound = scripts_are_sound c.loading_is_sound.ensures.law c.core_stays_sound.ensures.sound c.outputs_stay_beginnings.ensures.outputs
-      c.each_task_has_one_home.ensures.homes c.emitted_is_kernel.ensures.kernel;
-}

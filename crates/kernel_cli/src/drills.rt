@@ -1,0 +1,46 @@
+//! The core of a bundle for one hart, whose hart goes on until it finds nothing.
+
+ghost use Rattle.std.specs.Prelude.{◌≡◌, ◌≤◌, ◌+◌, ◌^◌, ℕ, List, [], IfOk};
+ghost use Rattle.core_model.specs.Loaded.{IsLoaded};
+ghost use Rattle.kernel_cli.specs.Drills.{IsDrilled, IsDrillOrder};
+ghost use Rattle.kernel_cli.specs.Replays.{order_report};
+
+use crate::scripts::core_report;
+use core_invariant::emitted_is_kernel;
+use core_model::Loaded;
+use kernel_core::Core;
+use probe_log::{Keeper, Tally};
+use std::alloc::{AllocError, Global};
+
+/// How many queue actions a bundle makes at most.
+const MAX_ACTIONS: u64 = 1_048_576;
+
+/// The core of a bundle for one hart, after the entries of that hart up to and with the take that finds nothing.
+pub(crate) fn drill_core<K: Keeper>(
+    alloc: Global,
+    loaded: &Loaded,
+    keeper: K,
+) -> Result<Core<K>, AllocError>
+    requires loaded { IsLoaded loaded.now }
+    requires harts { loaded.now.harts ≡ 1 }
+    requires empty { K.stands keeper [] }
+    requires room { 2 ^ 64 ≤ K.room_of keeper + 1 }
+    ensures drilled { IfOk result (IsDrilled K.stands loaded.now) }
+{
+    emitted_is_kernel();
+    let mut core = Core::boot(alloc, loaded, keeper, MAX_ACTIONS)?;
+    while core.goes_on(0) {
+        let _action = core.to_action(0);
+    }
+    Ok(core)
+}
+
+/// The report of the core after that.
+pub(crate) fn drill(alloc: Global, loaded: &Loaded) -> Result<Vec<u8>, AllocError>
+    requires loaded { IsLoaded loaded.now }
+    requires harts { loaded.now.harts ≡ 1 }
+    ensures text { IfOk result (λ text. (order : List ℕ) × IsDrillOrder loaded.now order × (text.items ≡ order_report loaded.now order)) }
+{
+    let core = drill_core(alloc, loaded, Tally::new())?;
+    Ok(core_report(alloc, loaded, &core)?)
+}
