@@ -182,6 +182,8 @@ const BUNDLES: [(&str, &[&str]); 2] = [
         &[
             FORTY_TWO,
             "bundle 1\nslots 1\ntask fuel 5 out 4 data 0\nwords 02a00513 00100893 00000073 00000893 00000073\nendtask",
+            "bundle 2\nslots 1\ntask fuel 5 out 4 data 0 band 1\nwords 02a00513 00100893 00000073 00000893 00000073\nendtask",
+            "bundle 02\nslots 1\n task  fuel 5 out 4 data 0\tband 00\nwords 02a00513 00100893 00000073 00000893 00000073\nendtask\n",
         ],
     ),
     (
@@ -190,6 +192,8 @@ const BUNDLES: [(&str, &[&str]); 2] = [
             "# every kind of line\r\nbundle 01\n\n\tslots  3 \nplan 7 tail 4096 quanta 0 4096\nplan 0 tail 1 quanta\ntask fuel 3 out 4096 data 1024\n\
             tape 0xFfffffff 1\ntape\ncode\nnop\r\nj .+0\n endcode \nendtask\ntask fuel 5 out 4 data 0\n\
             words 02a00513 00100893 00000073\nwords 0x893 73\nendtask\nworld 4294967295 a\nworld 0 b\nevents\nevents g0*1048575 t7\norder 0*2 1",
+            "# the same with bands\r\nbundle 2\nslots 8\nplan 1 tail 1\ntask fuel 3 out 4096 data 1024 band 1\ntape 1\ncode\nj .+0\nendcode\n\
+            endtask\n# between\ntask fuel 5 out 4 data 0 band 000\r\nwords 02a00513 00100893 00000073 893 73\nendtask\nworld 0\nevents t0\norder",
         ],
     ),
 ];

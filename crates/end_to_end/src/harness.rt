@@ -1,6 +1,6 @@
 //! What the tables share: an edge that may fail, running words over an input, and running a command over each row of a table.
 
-use io_edge::{MemSink, MemSource, read_all};
+use io_edge::{MemSink, MemSource, ReadEnd, read_all};
 use kernel_cli::{one_thread, status_number};
 use std::alloc::{AllocError, Global};
 use std::process::Abort;
@@ -74,6 +74,35 @@ pub(crate) fn runs<R: Abort + AllocGlobal>(
         (ended, rest.len()),
         (number, left),
         "number and bytes left of {words:?}, where {found} is written"
+    );
+    Ok(())
+}
+
+/// Runs the words over a source that fails at its first call: they have to end fine, write this text, and leave that call to come.
+pub(crate) fn runs_unread<R: Abort + AllocGlobal>(
+    rt: &R,
+    words: &[&str],
+    input: &[u8],
+    written: &str,
+) -> Result<(), Fail> {
+    let alloc = rt.alloc();
+    let words = words_of(alloc, words)?;
+    let mut src = MemSource::new(input.to_vec(alloc)?, 4096, [0].to_vec(alloc)?);
+    let mut sink = MemSink::new(alloc, 4096, 4096, Vec::new(alloc))?;
+    let ended = number_of(alloc, words.as_slice(), &mut src, &mut sink);
+    let found = str::from_utf8(sink.bytes())?;
+    assert_eq!(rt;
+        (ended, found),
+        (0, written),
+        "of {words:?}, over a source that fails"
+    );
+    let first = read_all(alloc, &mut src, input.len());
+    let fails = matches!(first, Err(ReadEnd::ReadFault));
+    let rest = read_all(alloc, &mut src, input.len())?;
+    assert_eq!(rt;
+        (fails, rest.len()),
+        (true, input.len()),
+        "the source after {words:?}"
     );
     Ok(())
 }

@@ -1,11 +1,16 @@
-//! Worked examples of the commands that run no core, over the top call: tasks alone, listings, what is refused, and an edge that
-//! fails. Everything here is a test.
+//! Worked examples of the commands that run no core, over the top call: tasks alone, listings, verdicts, bundles from a number, what is
+//! refused, and bundles that are broken at each byte; and edges that fail, under each command that needs no threads. Everything here is a
+//! test.
 #![tactic(auto)]
 
 #[cfg(test)]
 mod alone;
 #[cfg(test)]
+mod broken;
+#[cfg(test)]
 mod edges;
+#[cfg(test)]
+mod generated;
 #[cfg(test)]
 mod harness;
 #[cfg(test)]
@@ -14,3 +19,5 @@ mod limits;
 mod listings;
 #[cfg(test)]
 mod refusals;
+#[cfg(test)]
+mod verdicts;

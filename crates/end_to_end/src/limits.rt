@@ -53,7 +53,7 @@ out 5:
 ";
 
 /// The parts of an input, each with how often it stands, the number of the status and what `alone` writes.
-const LIMITS: [(&[(usize, &str)], u8, &str); 35] = [
+const LIMITS: [(&[(usize, &str)], u8, &str); 36] = [
     // The bytes of the input.
     (&[(4_194_304, " ")], 3, "line 2: missing\n"),
     (&[(4_194_305, " ")], 3, "too large\n"),
@@ -153,6 +153,14 @@ const LIMITS: [(&[(usize, &str)], u8, &str); 35] = [
     // The lists of a bundle, at their limits and past them.
     (
         &[HEAD, (33, "task fuel 1 out 0 data 0\nendtask\n")],
+        3,
+        "limit tasks 33\n",
+    ),
+    (
+        &[
+            (1, "bundle 2\nslots 8\n"),
+            (33, "task fuel 1 out 0 data 0 band 1\nendtask\n"),
+        ],
         3,
         "limit tasks 33\n",
     ),

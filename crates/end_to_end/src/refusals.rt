@@ -149,7 +149,7 @@ const ONE_BUNDLE: Frame<'static> = Frame {
 };
 
 /// The line and the cause of a refusal, and the lines.
-const BUNDLES: [(&str, &[&str]); 22] = [
+const BUNDLES: [(&str, &[&str]); 23] = [
     ("3: not text", &["# \x7f", "events\x00", "plan 0\x0b"]),
     (
         "5: not text",
@@ -166,7 +166,9 @@ const BUNDLES: [(&str, &[&str]); 22] = [
     ),
     (
         "3: misplaced",
-        &["bundle 1", "slots 1", "words", "endcode", "endtask"],
+        &[
+            "bundle 1", "bundle 2", "slots 1", "words", "endcode", "endtask",
+        ],
     ),
     (
         "4: misplaced",
@@ -197,8 +199,14 @@ const BUNDLES: [(&str, &[&str]); 22] = [
             "plan 0 tail 1 quantum",
             "task fuel x out 0 data",
             "task out 0 fuel 1 data 0",
+            "task fuel 1 out 0 data 0 band 0",
+            "task fuel 0 out 0 data 0 band 2",
             "world",
         ],
+    ),
+    (
+        "5: operands",
+        &["task fuel 1 out 0 data 0\nendtask\ntask fuel 1 out 0 data 0 band 0"],
     ),
     (
         "4: operands",
@@ -296,6 +304,96 @@ const BUNDLES: [(&str, &[&str]); 22] = [
     ),
 ];
 
+/// The lines after `bundle 2` and `slots 1`, of which the first is line 3.
+const BANDS_BUNDLE: Frame<'static> = Frame {
+    input: ("bundle 2\nslots 1\n", "\n"),
+    written: ("line ", "\n"),
+};
+
+/// The line and the cause of a refusal where each task says its band, and the lines.
+const BANDS: [(&str, &[&str]); 14] = [
+    ("3: not text", &["task fuel 1 out 0 data 0 band 0\x01"]),
+    (
+        "3: unknown word",
+        &["band 0", "Task fuel 1 out 0 data 0 band 0"],
+    ),
+    (
+        "3: misplaced",
+        &["bundle 1", "bundle 2", "slots 1", "words", "endtask"],
+    ),
+    (
+        "4: misplaced",
+        &["task fuel 1 out 0 data 0 band 1\ntask fuel 1 out 0 data 0 band 0"],
+    ),
+    (
+        "5: misplaced",
+        &["task fuel 1 out 0 data 0 band 1\nendtask\nplan 0 tail 1"],
+    ),
+    (
+        "3: operands",
+        &[
+            "task fuel 1 out 0 data 0",
+            "task fuel 1 out 0 data 0 band",
+            "task fuel 1 out 0 data 0 0",
+            "task fuel 1 out 0 data 0 bands 0",
+            "task fuel 1 out 0 data 0 Band 0",
+            "task fuel 1 out 0 data 0 band 0 0",
+            "task fuel 1 out 0 data 0 band 0 band 0",
+            "task band 0 fuel 1 out 0 data 0",
+            "task fuel 1 out 0 band 0 data 0",
+            // Before any number is judged.
+            "task fuel x out 4097 data 0",
+            "task fuel x out 4097 data 0 bund 2",
+        ],
+    ),
+    (
+        "5: operands",
+        &["task fuel 1 out 0 data 0 band 1\nendtask\ntask fuel 1 out 0 data 0"],
+    ),
+    (
+        "3: bad number",
+        &[
+            "task fuel 1 out 0 data 0 band x",
+            "task fuel 1 out 0 data 0 band -1",
+            "task fuel 1 out 0 data 0 band +1",
+            "task fuel 1 out 0 data 0 band 0x1",
+            "task fuel x out 0 data 0 band 2",
+        ],
+    ),
+    (
+        "3: out of range",
+        &[
+            "task fuel 1 out 0 data 0 band 2",
+            "task fuel 1 out 0 data 0 band 10",
+            "task fuel 1 out 0 data 0 band 4294967296",
+            "task fuel 1 out 0 data 0 band 18446744073709551617",
+            // The numbers are judged from the left.
+            "task fuel 0 out 0 data 0 band x",
+            "task fuel 1 out 0 data 1025 band x",
+        ],
+    ),
+    (
+        "5: out of range",
+        &["task fuel 1 out 0 data 0 band 01\nendtask\ntask fuel 1 out 0 data 0 band 2"],
+    ),
+    ("4: missing", &["task fuel 1 out 0 data 0 band 1"]),
+    // Code is assembled once all lines have been read.
+    (
+        "5: asm unknown word",
+        &["task fuel 1 out 0 data 0 band 1\ncode\naddz\nendcode\nendtask"],
+    ),
+    (
+        "8: out of range",
+        &[
+            "task fuel 1 out 0 data 0 band 1\ncode\naddz\nendcode\nendtask\ntask fuel 1 out 0 data 0 band 2",
+        ],
+    ),
+    (
+        "7: missing",
+        &["task fuel 1 out 0 data 0 band 0\nendtask\ntask fuel 1 out 0 data 0 band 1\nwords"],
+    ),
+];
+
 /// Whole inputs.
 const WHOLE: Frame<'static> = Frame {
     input: ("", ""),
@@ -306,11 +404,20 @@ const WHOLE: Frame<'static> = Frame {
 const HEADS: [(&str, &[&str]); 14] = [
     ("line 1: missing", &[""]),
     ("line 1: unknown word", &["bun"]),
-    ("line 1: operands", &["bundle", "bundle "]),
+    (
+        "line 1: operands",
+        &["bundle", "bundle ", "bundle 1 2", "bundle 2 2"],
+    ),
     ("line 1: bad number", &["bundle x", "bundle 1\r\r\n"]),
-    ("line 1: out of range", &["bundle 0", "bundle 3"]),
+    (
+        "line 1: out of range",
+        &["bundle 0", "bundle 3", "bundle 4294967298"],
+    ),
     ("line 1: misplaced", &["slots 1\n"]),
-    ("line 2: missing", &["\n", "bundle 1", "bundle 1\n"]),
+    (
+        "line 2: missing",
+        &["\n", "bundle 1", "bundle 1\n", "bundle 02"],
+    ),
     ("line 2: operands", &["bundle 1\nslots "]),
     ("line 2: bad number", &["bundle 1\nslots 1\r"]),
     (
@@ -319,7 +426,11 @@ const HEADS: [(&str, &[&str]); 14] = [
     ),
     (
         "limit tasks 0",
-        &["bundle 1\nslots 1", "bundle 1\nslots 1\n"],
+        &[
+            "bundle 1\nslots 1",
+            "bundle 1\nslots 1\n",
+            "bundle 2\nslots 1",
+        ],
     ),
     (
         "line 4: missing",
@@ -350,5 +461,6 @@ const HEADS: [(&str, &[&str]); 14] = [
 fn refusals(rt: HostRuntime) -> Result<(), Fail> {
     writes_each(&rt, "alone", ONE_CODE, 3, &CODE)?;
     writes_each(&rt, "alone", ONE_BUNDLE, 3, &BUNDLES)?;
+    writes_each(&rt, "alone", BANDS_BUNDLE, 3, &BANDS)?;
     writes_each(&rt, "alone", WHOLE, 3, &HEADS)
 }

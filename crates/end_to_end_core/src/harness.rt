@@ -7,7 +7,7 @@ use std::process::Abort;
 use std::test::Fail;
 
 /// The words of a command line.
-fn words_of(alloc: Global, words: &[&str]) -> Result<Vec<String>, AllocError> {
+pub(crate) fn words_of(alloc: Global, words: &[&str]) -> Result<Vec<String>, AllocError> {
     let mut owned = Vec::new(alloc);
     for word in words {
         owned.push(String::from_str(alloc, word)?)?;
@@ -48,6 +48,11 @@ pub(crate) fn text_of(alloc: Global, parts: &[(usize, &str)]) -> Result<String, 
     Ok(text)
 }
 
+/// How many lines a text has.
+pub(crate) fn lines_of(text: &[u8]) -> usize {
+    text.iter().filter(|byte| **byte == b'\n').count()
+}
+
 /// Runs words over each input of a table, whose rows are a text and the inputs of which it is the whole output, with status 0. Before
 /// and after each input stands the frame.
 pub(crate) fn writes_each<R: Abort + AllocGlobal>(
@@ -66,6 +71,24 @@ pub(crate) fn writes_each<R: Abort + AllocGlobal>(
                 "{words:?} of {input}"
             );
         }
+    }
+    Ok(())
+}
+
+/// Runs each row of a table, with this number of the status.
+pub(crate) fn ends_each<R: Abort + AllocGlobal>(
+    rt: &R,
+    number: u8,
+    rows: &[(&[&str], &[(usize, &str)], &str)],
+) -> Result<(), Fail> {
+    for (words, parts, written) in rows {
+        let input = text_of(rt.alloc(), parts)?;
+        let sink = output_of(rt, words, input.as_str(), 65_536, number)?;
+        assert_eq!(rt;
+            str::from_utf8(sink.bytes())?,
+            *written,
+            "{words:?} of {input}"
+        );
     }
     Ok(())
 }

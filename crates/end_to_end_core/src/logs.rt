@@ -1,6 +1,6 @@
 //! Logs and what they show, as an independent model of the machine gives them.
 
-use crate::harness::{output_of, text_of, writes_each};
+use crate::harness::{lines_of, output_of, text_of, writes_each};
 use std::test::Fail;
 
 /// The first two steps of a hart: every entry.
@@ -255,11 +255,6 @@ out 0:
 probes 24957 public 22109 value 2838 step 10 unexplained 0
 latches reg 2611 portA 6468 portB 2555 res 6182 load 2382 store 2360 scr 102 mem 2297
 ";
-
-/// How many lines a text has.
-fn lines_of(text: &[u8]) -> usize {
-    text.iter().filter(|byte| **byte == b'\n').count()
-}
 
 /// A task that puts out 42 and exits with it.
 const FORTY_TWO: &str =

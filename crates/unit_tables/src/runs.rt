@@ -63,7 +63,7 @@ fn a_board_that_grows(rt: HostRuntime) -> Result<(), Fail> {
     let task = task_of(alloc, &[0x73])?;
     let mut bodies = Vec::new(alloc);
     bodies.push(Body::fresh(alloc, 0, &task)?)?;
-    let mut board = Board::boot(alloc, 1, bodies)?;
+    let mut board = Board::boot(alloc, 1, bodies, vec![in alloc; 0]?)?;
     board.reserve_two()?;
     assert_eq!(rt; board.home(0), Some(Home::Slot(0)));
     assert!(rt; is_sendable(board));
