@@ -1,7 +1,8 @@
 #!/usr/bin/env bash
 # Compares what the program prints for each example with what stands beside it: NAME.bundle with NAME.alone, and with NAME.asm,
-# NAME.script, NAME.probes (of `script probes`) and NAME.explain where there is one. Prints what differs, and nothing where all agree.
-# Ends with 1 where something differs or a report is missing. Where the program isn't built it says so and ends with 0.
+# NAME.script, NAME.probes (of `script probes`), NAME.explain, NAME.replayH (of `replay H`), NAME.runH (of `run H`, where the harts can make
+# one order alone) and NAME.certify where there is one. Prints what differs, and nothing where all agree. Ends with 1 where something differs or a report is missing. Where the program isn't built it says so and
+# ends with 0.
 set -u
 cd "$(dirname "$0")" || exit 2
 program=../crates/msktask/out/msktask
@@ -14,20 +15,26 @@ fi
 printed() {
     case $1 in
         probes) "$program" script probes <"$2" ;;
+        replay?) "$program" replay "${1#replay}" <"$2" ;;
+        run?) "$program" run "${1#run}" <"$2" ;;
         *) "$program" "$1" <"$2" ;;
     esac
     echo "status $?"
 }
 
-# what it has to print: the file, and then status 0
+# what it has to print: the file, and then its status, which is 1 for a task that isn't certified and 0 for everything else
 wanted() {
-    cat "$1" && echo "status 0"
+    cat "$1" || return
+    case $(head -c 4 "$1") in
+        leak | cont) echo "status 1" ;;
+        *) echo "status 0" ;;
+    esac
 }
 
 differ=0
 for bundle in *.bundle; do
     name=${bundle%.bundle}
-    for command in alone asm script probes explain; do
+    for command in alone asm run{1..8} script probes explain certify replay{1..8}; do
         [ -e "$name.$command" ] || [ "$command" = alone ] || continue
         diff --label "$name.$command" --label "$command < $bundle" -u <(wanted "$name.$command") <(printed "$command" "$bundle") ||
             differ=1
