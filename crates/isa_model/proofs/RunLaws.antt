@@ -50,13 +50,13 @@ jump_aligned : (before after : List Write) (target : ℕ) → GoesAligned (jump 
 jump_aligned before after target =
     cond_both (target % 4 == 0) (does (before ++ after) (Goes target)) (does before (Raises 0)) (λ (e : Effect). GoesAligned e.next) (λ t. eqb-true (target % 4) 0 t) (λ f. tt)
 
-load_aligned : (kind : LoadKind) (rd pc at : ℕ) (begun : List Write) (word : Option ℕ) → pc % 4 ≡ 0 → GoesAligned (load_word kind rd pc at begun word).next
-load_aligned kind rd pc at begun None h = tt
-load_aligned kind rd pc at begun (Some word) h = four_more pc h
+load_aligned : (kind : LoadKind) (rd pc at : ℕ) (early_writes : List Write) (word : Option ℕ) → pc % 4 ≡ 0 → GoesAligned (load_word kind rd pc at early_writes word).next
+load_aligned kind rd pc at early_writes None h = tt
+load_aligned kind rd pc at early_writes (Some word) h = four_more pc h
 
-store_aligned : (kind : StoreKind) (value pc at : ℕ) (begun : List Write) (word : Option ℕ) → pc % 4 ≡ 0 → GoesAligned (store_word kind value pc at begun word).next
-store_aligned kind value pc at begun None h = tt
-store_aligned kind value pc at begun (Some word) h = four_more pc h
+store_aligned : (kind : StoreKind) (value pc at : ℕ) (early_writes : List Write) (word : Option ℕ) → pc % 4 ≡ 0 → GoesAligned (store_word kind value pc at early_writes word).next
+store_aligned kind value pc at early_writes None h = tt
+store_aligned kind value pc at early_writes (Some word) h = four_more pc h
 
 pub next_aligned : (instr : Instr) (pc : ℕ) (o : Operands) → pc % 4 ≡ 0 → GoesAligned (effect_of instr pc o).next
 next_aligned (Lui rd imm20) pc o h = four_more pc h

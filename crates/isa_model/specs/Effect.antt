@@ -114,14 +114,14 @@ stored_flow stores.W = Moved Rs2
 stored_flow _ = Mixed (Word ∷ Rs2 ∷ [])
 
 abbrev pub load_word : LoadKind → ℕ → ℕ → ℕ → List Write → Option ℕ → Effect
-load_word kind rd pc at begun None = does begun (Raises 5)
-load_word kind rd pc at begun (Some word) =
-    does (begun ++ to latches.Load word (Moved Word) ++ to_reg rd (load_result kind word at) (loaded_flow kind)) (Goes (low_word (pc + 4)))
+load_word kind rd pc at early_writes None = does early_writes (Raises 5)
+load_word kind rd pc at early_writes (Some word) =
+    does (early_writes ++ to latches.Load word (Moved Word) ++ to_reg rd (load_result kind word at) (loaded_flow kind)) (Goes (low_word (pc + 4)))
 
 abbrev pub store_word : StoreKind → ℕ → ℕ → ℕ → List Write → Option ℕ → Effect
-store_word kind value pc at begun None = does begun (Raises 7)
-store_word kind value pc at begun (Some word) =
-    does (begun ++ to latches.Store value (Moved Rs2) ++ to (latches.Mem (word_address at)) (store_result kind word at value) (stored_flow kind)) (Goes (low_word (pc + 4)))
+store_word kind value pc at early_writes None = does early_writes (Raises 7)
+store_word kind value pc at early_writes (Some word) =
+    does (early_writes ++ to latches.Store value (Moved Rs2) ++ to (latches.Mem (word_address at)) (store_result kind word at value) (stored_flow kind)) (Goes (low_word (pc + 4)))
 
 abbrev pub csr_flow : CsrOp → List Operand → Flow → Flow
 csr_flow Rw from flow = flow
@@ -138,8 +138,8 @@ is_mscratch csr = csr == 0x340
 
 -- Res and rd take the old value; Rw with rd x0 doesn't read
 abbrev pub csr_effect : List Write → ℕ → ℕ → ℕ → ℕ → Bool → ℕ → Flow → Effect
-csr_effect begun rd csr pc old written new flow = record {
-  writes = begun
+csr_effect early_writes rd csr pc old written new flow = record {
+  writes = early_writes
       ++ (if rd == 0 then [] else to latches.Res old (Moved OldCsr))
       ++ (if written && is_mscratch csr then to latches.Scr new flow else [])
       ++ to_reg rd old (Moved OldCsr);
@@ -160,11 +160,11 @@ effect_of (Jalr rd rs1 imm) pc o = jump (port_a o) (result rd (low_word (pc + 4)
 effect_of (Branch op rs1 rs2 off) pc o =
     if is_taken op o.rs1 o.rs2 then jump (ports o) [] (low_word (pc + two_complement 32 off)) else does (ports o) (Goes (low_word (pc + 4)))
 effect_of (Load kind rd rs1 imm) pc o =
-    let begun = port_a o ++ to latches.Res (address o.rs1 imm) (Mixed (Rs1 ∷ [])) in
-    if address o.rs1 imm % load_size kind == 0 then load_word kind rd pc (address o.rs1 imm) begun o.word else does begun (Raises 4)
+    let early_writes = port_a o ++ to latches.Res (address o.rs1 imm) (Mixed (Rs1 ∷ [])) in
+    if address o.rs1 imm % load_size kind == 0 then load_word kind rd pc (address o.rs1 imm) early_writes o.word else does early_writes (Raises 4)
 effect_of (Store kind rs2 rs1 imm) pc o =
-    let begun = ports o ++ to latches.Res (address o.rs1 imm) (Mixed (Rs1 ∷ [])) in
-    if address o.rs1 imm % store_size kind == 0 then store_word kind o.rs2 pc (address o.rs1 imm) begun o.word else does begun (Raises 6)
+    let early_writes = ports o ++ to latches.Res (address o.rs1 imm) (Mixed (Rs1 ∷ [])) in
+    if address o.rs1 imm % store_size kind == 0 then store_word kind o.rs2 pc (address o.rs1 imm) early_writes o.word else does early_writes (Raises 6)
 effect_of (AluImm op rd rs1 imm) pc o =
     does (port_a o ++ result rd (alu_of op o.rs1 (two_complement 32 imm)) (Mixed (Rs1 ∷ []))) (Goes (low_word (pc + 4)))
 effect_of (AluReg op rd rs1 rs2) pc o =

@@ -1,4 +1,5 @@
 pub mod Bits
+pub mod Limits
 pub mod Encoding
 pub mod InstrTable
 pub mod Arithmetic

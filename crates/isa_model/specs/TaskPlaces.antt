@@ -1,6 +1,7 @@
 -- Where tasks lie (this project's own memory map), and which tasks there are.
 use Rattle.std.specs.Prelude.{◌≡◌, ℕ, ◌+◌, ◌*◌, ◌%◌, ◌^◌, ◌≤◌, ◌⊎◌, length}
 use Rattle.isa_model.specs.declared.task.Task.{Task}
+use Rattle.isa_model.specs.Limits.{max_code_words, max_data_words, max_tape_words, max_output_words, max_fuel}
 
 -- the address of the code of task number t
 abbrev pub code_place : ℕ → ℕ
@@ -20,9 +21,9 @@ pub record IsValidTask (T : Task) : Type 0 where
   pub code_end : T.code_at + 4 * length T.code ≤ 2 ^ 32
   pub data_end : T.data_at + 4 * T.data_len ≤ 2 ^ 32
   pub apart : (T.code_at + 4 * length T.code ≤ T.data_at) ⊎ (T.data_at + 4 * T.data_len ≤ T.code_at)
-  pub code_limit : length T.code ≤ 4096
-  pub data_limit : T.data_len ≤ 1024
+  pub code_limit : length T.code ≤ max_code_words
+  pub data_limit : T.data_len ≤ max_data_words
   pub fuel_least : 1 ≤ T.fuel
-  pub fuel_limit : T.fuel ≤ 100000
-  pub out_limit : T.out_max ≤ 4096
-  pub tape_limit : length T.tape ≤ 4096
+  pub fuel_limit : T.fuel ≤ max_fuel
+  pub out_limit : T.out_max ≤ max_output_words
+  pub tape_limit : length T.tape ≤ max_tape_words
