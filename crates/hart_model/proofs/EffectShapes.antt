@@ -65,8 +65,8 @@ module _ (T : Task) where
   store_shape : (kind : StoreKind) (value pc at : ℕ) (a b c : ℕ) (values : Latch → ℕ) → IsValidTask T → pc % 4 ≡ 0
       → HasShape T (store_word kind value pc at (to latches.PortA a (Moved Rs1) ++ to latches.PortB b (Moved Rs2) ++ to latches.Res c (Mixed (Rs1 ∷ []))) (data_word_at T values at))
   store_shape kind value pc at a b c values valid even =
-      let begun : List Write = to latches.PortA a (Moved Rs1) ++ to latches.PortB b (Moved Rs2) ++ to latches.Res c (Mixed (Rs1 ∷ [])) in
-      cond_both (is_data_address T at) (Some (values (latches.Mem (word_address at)))) None (λ (word : Option ℕ). HasShape T (store_word kind value pc at begun word))
+      let early_writes : List Write = to latches.PortA a (Moved Rs1) ++ to latches.PortB b (Moved Rs2) ++ to latches.Res c (Mixed (Rs1 ∷ [])) in
+      cond_both (is_data_address T at) (Some (values (latches.Mem (word_address at)))) None (λ (word : Option ℕ). HasShape T (store_word kind value pc at early_writes word))
       (λ inside. (four_more pc even, (tt, (tt, (tt, (tt, (data_word_is_task_latch T at valid inside, tt)))))))
       (λ outside. (omega arith, (tt, (tt, (tt, tt)))))
 

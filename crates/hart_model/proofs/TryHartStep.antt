@@ -36,13 +36,13 @@ machine_mode = refl
 abbrev context : ContextState
 context = admit_of (small_body []) 0 fresh_words
 
-abbrev begun : List CellWrite
-begun = record { at = PortA; cell = blank } ∷ record { at = Res; cell = public 0x700 } ∷ []
+abbrev early_writes : List CellWrite
+early_writes = record { at = PortA; cell = blank } ∷ record { at = Res; cell = public 0x700 } ∷ []
 
 abbrev got : HartState
-got = (answer_take begun 5 0x1328 (Some context) (boot_hart 0 0x1324)).hart
+got = (answer_take early_writes 5 0x1328 (Some context) (boot_hart 0 0x1324)).hart
 
-entries_of_take : (answer_take begun 5 0x1328 (Some context) (boot_hart 0 0x1324)).probes ≡
+entries_of_take : (answer_take early_writes 5 0x1328 (Some context) (boot_hart 0 0x1324)).probes ≡
     entry 0 0x1324 latches.PortA 0 0 whys.Public
     ∷ entry 0 0x1324 latches.Res 0 0x700 whys.Public
     ∷ entry 0 0x1324 latches.Load 0 0x200 whys.Public
@@ -63,11 +63,11 @@ unfolding machine_step
 entries_of_branch = refl
 
 -- where the queue has nothing
-empty_take : hart_cell (answer_take begun 5 0x1328 None (record (boot_hart 0 0x1324) { load = public 9 })).hart (Reg 5) ≡ blank
+empty_take : hart_cell (answer_take early_writes 5 0x1328 None (record (boot_hart 0 0x1324) { load = public 9 })).hart (Reg 5) ≡ blank
 empty_take = refl
 
 -- lw x0,0x700(x0) writes no register
-take_into_x0 : (answer_take begun 0 0x1328 (Some context) (boot_hart 0 0x1324)).hart.regs ≡ (boot_hart 0 0x1324).regs
+take_into_x0 : (answer_take early_writes 0 0x1328 (Some context) (boot_hart 0 0x1324)).hart.regs ≡ (boot_hart 0 0x1324).regs
 take_into_x0 = refl
 
 -- a give leaves a hart that holds nothing

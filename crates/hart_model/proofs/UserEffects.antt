@@ -75,11 +75,11 @@ protected T value instr =
     record o { word = if is_access_allowed (task_pmp T) instr o.rs1 then o.word else None }
 
 -- what a load and a store have written before their access
-abbrev begun_load : ℕ → ℤ → List Write
-begun_load rs1 imm = to latches.PortA rs1 (Moved Rs1) ++ to latches.Res (address rs1 imm) (Mixed (Rs1 ∷ []))
+abbrev early_writes_load : ℕ → ℤ → List Write
+early_writes_load rs1 imm = to latches.PortA rs1 (Moved Rs1) ++ to latches.Res (address rs1 imm) (Mixed (Rs1 ∷ []))
 
-abbrev begun_store : ℕ → ℕ → ℤ → List Write
-begun_store rs1 rs2 imm = to latches.PortA rs1 (Moved Rs1) ++ to latches.PortB rs2 (Moved Rs2) ++ to latches.Res (address rs1 imm) (Mixed (Rs1 ∷ []))
+abbrev early_writes_store : ℕ → ℕ → ℤ → List Write
+early_writes_store rs1 rs2 imm = to latches.PortA rs1 (Moved Rs1) ++ to latches.PortB rs2 (Moved Rs2) ++ to latches.Res (address rs1 imm) (Mixed (Rs1 ∷ []))
 
 module _ (T : Task) (valid : IsValidTask T) (value other : Latch → ℕ) (same : HasValues T value other) where
   same_data : (at : ℕ) → is_data_address T at ≡ true → value (latches.Mem (word_address at)) ≡ other (latches.Mem (word_address at))
@@ -109,12 +109,12 @@ module _ (T : Task) (valid : IsValidTask T) (value other : Latch → ℕ) (same 
   same_row (Load kind rd rs1 imm) pc has =
       let a = same.registers rs1 has.rs1 in
       rw a (under_test (address (other (latches.Reg rs1)) imm % load_size kind == 0) _ _ _
-      (λ even. ap (λ (word : Option ℕ). load_word kind rd pc (address (other (latches.Reg rs1)) imm) (begun_load (other (latches.Reg rs1)) imm) word) (same_load kind (address (other (latches.Reg rs1)) imm) (eqb-true _ _ even))))
+      (λ even. ap (λ (word : Option ℕ). load_word kind rd pc (address (other (latches.Reg rs1)) imm) (early_writes_load (other (latches.Reg rs1)) imm) word) (same_load kind (address (other (latches.Reg rs1)) imm) (eqb-true _ _ even))))
   same_row (Store kind rs2 rs1 imm) pc has =
       let a = same.registers rs1 has.rs1 in
       let b = same.registers rs2 has.rs2 in
       rw (a, b) (under_test (address (other (latches.Reg rs1)) imm % store_size kind == 0) _ _ _
-      (λ even. ap (λ (word : Option ℕ). store_word kind (other (latches.Reg rs2)) pc (address (other (latches.Reg rs1)) imm) (begun_store (other (latches.Reg rs1)) (other (latches.Reg rs2)) imm) word) (same_store kind (address (other (latches.Reg rs1)) imm) (eqb-true _ _ even))))
+      (λ even. ap (λ (word : Option ℕ). store_word kind (other (latches.Reg rs2)) pc (address (other (latches.Reg rs1)) imm) (early_writes_store (other (latches.Reg rs1)) (other (latches.Reg rs2)) imm) word) (same_store kind (address (other (latches.Reg rs1)) imm) (eqb-true _ _ even))))
   same_row (AluImm op rd rs1 imm) pc has = let a = same.registers rs1 has.rs1 in rw a refl
   same_row (AluReg op rd rs1 rs2) pc has = let a = same.registers rs1 has.rs1 in let b = same.registers rs2 has.rs2 in rw (a, b) refl
   same_row (Fence word) pc has = refl

@@ -42,7 +42,7 @@ use Rattle.hart_model.specs.Wedges.{CanLoad, CanStore, IsEndCode, LoadFails, Sto
 -- a result, and the cases in which it is a wedge
 abbrev IsNoWedge : StepResult → Type 0
 IsNoWedge (Steps hart probes did) = Unit {0}
-IsNoWedge (Wants call begun rd next) = Unit {0}
+IsNoWedge (Wants call early_writes rd next) = Unit {0}
 IsNoWedge Wedged = ⊥
 
 abbrev Settles : StepResult → Type 0 → Type 0
@@ -50,7 +50,7 @@ Settles result W = ((result ≡ Wedged) × W) ⊎ (IsNoWedge result × ¬ W)
 
 no_wedge : (result : StepResult) → IsNoWedge result → result ≢ Wedged
 no_wedge (Steps hart probes did) h e = cc
-no_wedge (Wants call begun rd next) h e = cc
+no_wedge (Wants call early_writes rd next) h e = cc
 no_wedge Wedged h e = h
 
 exactly : (result : StepResult) (W : Type 0) → Settles result W → (result ≡ Wedged) ↔ W
@@ -230,8 +230,8 @@ module _ (h : HartState) where
   load_finds kind rd rs1 imm cell side X not =
       let o : OperandCells = operand_cells h (Load kind rd rs1 imm) (Some cell) blank in
       let at = address (reg_value h rs1) imm in
-      let begun : List Write = port_a (operand_values o) ++ to latches.Res at (Mixed (Rs1 ∷ [])) in
-      cond_both (at % load_size kind == 0) (load_word kind rd h.pc at begun (Some cell.value)) (does begun (Raises 4))
+      let early_writes : List Write = port_a (operand_values o) ++ to latches.Res at (Mixed (Rs1 ∷ [])) in
+      cond_both (at % load_size kind == 0) (load_word kind rd h.pc at early_writes (Some cell.value)) (does early_writes (Raises 4))
       (λ (e : Effect). Settles (after_machine_effect h o side e) ((at % load_size kind ≢ 0) ⊎ X))
       (λ t. inr (tt, λ either. elim either [ inl astray ↦ absurd (astray (eqb-true (at % load_size kind) 0 t)) | inr x ↦ absurd (not x) ]))
       (λ f. inl (refl, inl (eqb-false (at % load_size kind) 0 f)))
@@ -241,8 +241,8 @@ module _ (h : HartState) where
   store_finds kind rs2 rs1 imm cell side X not =
       let o : OperandCells = operand_cells h (Store kind rs2 rs1 imm) (Some cell) blank in
       let at = address (reg_value h rs1) imm in
-      let begun : List Write = ports (operand_values o) ++ to latches.Res at (Mixed (Rs1 ∷ [])) in
-      cond_both (at % store_size kind == 0) (store_word kind (reg_value h rs2) h.pc at begun (Some cell.value)) (does begun (Raises 6))
+      let early_writes : List Write = ports (operand_values o) ++ to latches.Res at (Mixed (Rs1 ∷ [])) in
+      cond_both (at % store_size kind == 0) (store_word kind (reg_value h rs2) h.pc at early_writes (Some cell.value)) (does early_writes (Raises 6))
       (λ (e : Effect). Settles (after_machine_effect h o side e) ((at % store_size kind ≢ 0) ⊎ X))
       (λ t. inr (tt, λ either. elim either [ inl astray ↦ absurd (astray (eqb-true (at % store_size kind) 0 t)) | inr x ↦ absurd (not x) ]))
       (λ f. inl (refl, inl (eqb-false (at % store_size kind) 0 f)))

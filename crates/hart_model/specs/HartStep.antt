@@ -32,12 +32,12 @@ loaded_writes rd cell = record { at = Load; cell = cell } ∷ (if rd == 0 then [
 -- The hart after the answer to a take: the writes of PortA and Res that the load has begun with, then those of the loaded word; what
 -- was got is held, and the hart goes on.
 abbrev pub answer_take : List CellWrite → ℕ → ℕ → Option ContextState → HartState → HartAndProbes
-answer_take begun rd next got h =
-    let a = after_writes (begun ++ loaded_writes rd (take_cell got)) h in
+answer_take early_writes rd next got h =
+    let a = after_writes (early_writes ++ loaded_writes rd (take_cell got)) h in
     record { hart = record a.hart { pc = next; held = got }; probes = a.probes }
 
 -- The hart after it gave what it held: the writes of PortA, PortB, Res and Store, and nothing is held.
 abbrev pub answer_give : List CellWrite → ℕ → HartState → HartAndProbes
-answer_give begun next h =
-    let a = after_writes begun h in
+answer_give early_writes next h =
+    let a = after_writes early_writes h in
     record { hart = record a.hart { pc = next; held = None }; probes = a.probes }

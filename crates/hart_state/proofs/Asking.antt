@@ -147,11 +147,11 @@ no-take-short calls.GiveDone n p = tt
 load-short : (kind : LoadKind) (rd rs1 : ℕ) (imm : ℤ) (pc : ℕ) (o : OperandCells) → o.word ≡ None → length (effect_of (Load kind rd rs1 imm) pc (operand_values o)).writes ≤ 2
 load-short kind rd rs1 imm pc o none =
     let v = operand_values o in
-    let begun = port_a v ++ to Res (address v.rs1 imm) (Mixed (Rs1 ∷ [])) in
+    let early_writes = port_a v ++ to Res (address v.rs1 imm) (Mixed (Rs1 ∷ [])) in
     let without : v.word ≡ None = ap (λ (w : Option Cell). option_map (λ (c : Cell). c.value) w) none in
-    cond_both (address v.rs1 imm % load_size kind == 0) (load_word kind rd pc (address v.rs1 imm) begun v.word) (does begun (Raises 4))
+    cond_both (address v.rs1 imm % load_size kind == 0) (load_word kind rd pc (address v.rs1 imm) early_writes v.word) (does early_writes (Raises 4))
     (λ (e : Effect). length e.writes ≤ 2)
-    (λ t. subst (λ (w : Option ℕ). length (load_word kind rd pc (address v.rs1 imm) begun w).writes ≤ 2) (sym without) two)
+    (λ t. subst (λ (w : Option ℕ). length (load_word kind rd pc (address v.rs1 imm) early_writes w).writes ≤ 2) (sym without) two)
     (λ f. two)
   where
     two : 2 ≤ 2

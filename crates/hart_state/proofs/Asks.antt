@@ -27,7 +27,7 @@ SaysWhatItDid (Steps hart probes (dids.Wants call)) = ⊥
 SaysWhatItDid (Steps hart probes dids.Ran) = Unit {0}
 SaysWhatItDid (Steps hart probes (dids.Trapped cause)) = Unit {0}
 SaysWhatItDid (Steps hart probes dids.Wedged) = ⊥
-SaysWhatItDid (Wants call begun rd next) = Unit {0}
+SaysWhatItDid (Wants call early_writes rd next) = Unit {0}
 SaysWhatItDid Wedged = Unit {0}
 
 -- ---- machine mode
@@ -93,18 +93,18 @@ wanted_or did other = other
 same_call : (a b : QueueCall) → dids.Wants a ≡ dids.Wants b → a ≡ b
 same_call a b is = ap (λ did. wanted_or did b) is
 
-asks_itself : (call : QueueCall) (begun : List CellWrite) (rd next : ℕ) → AsksFor call (Wants call begun rd next)
-asks_itself Take begun rd next = tt
-asks_itself GiveReady begun rd next = tt
-asks_itself GiveDone begun rd next = tt
+asks_itself : (call : QueueCall) (early_writes : List CellWrite) (rd next : ℕ) → AsksFor call (Wants call early_writes rd next)
+asks_itself Take early_writes rd next = tt
+asks_itself GiveReady early_writes rd next = tt
+asks_itself GiveDone early_writes rd next = tt
 
 asks_by : (call : QueueCall) (s : StepResult) → SaysWhatItDid s → did_of s ≡ dids.Wants call → AsksFor call s
 asks_by call (Steps hart probes (dids.Wants other)) says is = absurd says
 asks_by call (Steps hart probes dids.Ran) says is = absurd cc
 asks_by call (Steps hart probes (dids.Trapped cause)) says is = absurd cc
 asks_by call (Steps hart probes dids.Wedged) says is = absurd says
-asks_by call (Wants other begun rd next) says is =
-    subst (λ c. AsksFor c (Wants other begun rd next)) (same_call other call is) (asks_itself other begun rd next)
+asks_by call (Wants other early_writes rd next) says is =
+    subst (λ c. AsksFor c (Wants other early_writes rd next)) (same_call other call is) (asks_itself other early_writes rd next)
 asks_by call Wedged says is = absurd cc
 
 -- the did of a step that changes nothing
@@ -119,7 +119,7 @@ kept_by h (Steps hart probes (dids.Wants other)) says kept = absurd says
 kept_by h (Steps hart probes dids.Ran) says kept = absurd (kept tt)
 kept_by h (Steps hart probes (dids.Trapped cause)) says kept = absurd (kept tt)
 kept_by h (Steps hart probes dids.Wedged) says kept = absurd says
-kept_by h (Wants other begun rd next) says kept = refl
+kept_by h (Wants other early_writes rd next) says kept = refl
 kept_by h Wedged says kept = refl
 
 says_step : (code : List ℕ) (h : HartState) (mode : Mode) → SaysWhatItDid (step_by_mode code h mode)

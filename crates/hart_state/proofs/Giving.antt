@@ -38,10 +38,10 @@ load-keeps : (h : HartState) (tag : Write → Tag) (kind : LoadKind) (rd rs1 : �
     → Keeps h tag (effect_of (Load kind rd rs1 imm) h.pc (operand_values o))
 load-keeps h tag kind rd rs1 imm o none =
     let v = operand_values o in
-    let begun = port_a v ++ to latches.Res (address v.rs1 imm) (Mixed (Rs1 ∷ [])) in
+    let early_writes = port_a v ++ to latches.Res (address v.rs1 imm) (Mixed (Rs1 ∷ [])) in
     let without : v.word ≡ None = ap (λ (w : Option Cell). option_map (λ (c : Cell). c.value) w) none in
-    cond_both (address v.rs1 imm % load_size kind == 0) (load_word kind rd h.pc (address v.rs1 imm) begun v.word) (does begun (Raises 4)) (Keeps h tag)
-    (λ t. subst (λ (w : Option ℕ). Keeps h tag (load_word kind rd h.pc (address v.rs1 imm) begun w)) (sym without) refl)
+    cond_both (address v.rs1 imm % load_size kind == 0) (load_word kind rd h.pc (address v.rs1 imm) early_writes v.word) (does early_writes (Raises 4)) (Keeps h tag)
+    (λ t. subst (λ (w : Option ℕ). Keeps h tag (load_word kind rd h.pc (address v.rs1 imm) early_writes w)) (sym without) refl)
     (λ f. refl)
 
 -- a port is no place
@@ -67,8 +67,8 @@ store-keeps : (h : HartState) (tag : Write → Tag) (kind : StoreKind) (rs2 rs1 
     → Keeps h tag (effect_of (Store kind rs2 rs1 imm) h.pc (operand_values o))
 store-keeps h tag kind rs2 rs1 imm o none =
     let v = operand_values o in
-    let begun = ports v ++ to latches.Res (address v.rs1 imm) (Mixed (Rs1 ∷ [])) in
-    cond_both (address v.rs1 imm % store_size kind == 0) (store_word kind v.rs2 h.pc (address v.rs1 imm) begun v.word) (does begun (Raises 6)) (Keeps h tag)
+    let early_writes = ports v ++ to latches.Res (address v.rs1 imm) (Mixed (Rs1 ∷ [])) in
+    cond_both (address v.rs1 imm % store_size kind == 0) (store_word kind v.rs2 h.pc (address v.rs1 imm) early_writes v.word) (does early_writes (Raises 6)) (Keeps h tag)
     (λ t. word-keeps h tag kind imm o v.word none)
     (λ f. refl)
 
@@ -81,29 +81,29 @@ store-at-port h stores.B stored (AtPort port) call word e = absurd (cc e)
 store-at-port h stores.H stored (AtPort port) call word e = absurd (cc e)
 store-at-port h kind stored Nowhere call word e = absurd (cc e)
 
-pub begun-keeps : (h : HartState) (tag : Write → Tag) (instr : Instr) (call : QueueCall) (word : Option Cell) → reach_of h instr ≡ NeedsQueue call word
+pub early_writes-keeps : (h : HartState) (tag : Write → Tag) (instr : Instr) (call : QueueCall) (word : Option Cell) → reach_of h instr ≡ NeedsQueue call word
     → Keeps h tag (effect_of instr h.pc (operand_values (operand_cells h instr word blank)))
-begun-keeps h tag (Load kind rd rs1 imm) call word e =
+early_writes-keeps h tag (Load kind rd rs1 imm) call word e =
     load-keeps h tag kind rd rs1 imm (operand_cells h (Load kind rd rs1 imm) word blank)
     (load-asks h kind (target_of h.held (address (hart_cell h (Reg rs1)).value imm)) call word e)
-begun-keeps h tag (Store kind rs2 rs1 imm) call word e =
+early_writes-keeps h tag (Store kind rs2 rs1 imm) call word e =
     let at = address (hart_cell h (Reg rs1)).value imm in
     let p = store-at-port h kind (hart_cell h (Reg rs2)) (target_of h.held at) call word e in
     store-keeps h tag kind rs2 rs1 imm (operand_cells h (Store kind rs2 rs1 imm) word blank)
     (no-place (place_of (machine_bases h.held) (latches.Mem (word_address at))) (port_at at) p.0 p.1)
-begun-keeps h tag (Csr op rd rs1 csr) call word e = absurd (csr-asks _ call word e)
-begun-keeps h tag (CsrImm op rd uimm csr) call word e = absurd (csr-asks _ call word e)
-begun-keeps h tag (Jalr rd rs1 imm) call word e = absurd (found-asks _ call word e)
-begun-keeps h tag Mret call word e = absurd (refused-asks _ call word e)
-begun-keeps h tag (Lui rd imm20) call word e = absurd (cc e)
-begun-keeps h tag (Auipc rd imm20) call word e = absurd (cc e)
-begun-keeps h tag (Jal rd off) call word e = absurd (cc e)
-begun-keeps h tag (Branch op rs1 rs2 off) call word e = absurd (cc e)
-begun-keeps h tag (AluImm op rd rs1 imm) call word e = absurd (cc e)
-begun-keeps h tag (AluReg op rd rs1 rs2) call word e = absurd (cc e)
-begun-keeps h tag (Fence word') call word e = absurd (cc e)
-begun-keeps h tag Ecall call word e = absurd (cc e)
-begun-keeps h tag Ebreak call word e = absurd (cc e)
+early_writes-keeps h tag (Csr op rd rs1 csr) call word e = absurd (csr-asks _ call word e)
+early_writes-keeps h tag (CsrImm op rd uimm csr) call word e = absurd (csr-asks _ call word e)
+early_writes-keeps h tag (Jalr rd rs1 imm) call word e = absurd (found-asks _ call word e)
+early_writes-keeps h tag Mret call word e = absurd (refused-asks _ call word e)
+early_writes-keeps h tag (Lui rd imm20) call word e = absurd (cc e)
+early_writes-keeps h tag (Auipc rd imm20) call word e = absurd (cc e)
+early_writes-keeps h tag (Jal rd off) call word e = absurd (cc e)
+early_writes-keeps h tag (Branch op rs1 rs2 off) call word e = absurd (cc e)
+early_writes-keeps h tag (AluImm op rd rs1 imm) call word e = absurd (cc e)
+early_writes-keeps h tag (AluReg op rd rs1 rs2) call word e = absurd (cc e)
+early_writes-keeps h tag (Fence word') call word e = absurd (cc e)
+early_writes-keeps h tag Ecall call word e = absurd (cc e)
+early_writes-keeps h tag Ebreak call word e = absurd (cc e)
 
 -- What a port asks of the queue with this held: a give has something to give.
 abbrev AsksFor : Option ContextState → PortAnswer → Type 0

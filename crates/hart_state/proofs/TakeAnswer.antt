@@ -24,7 +24,7 @@ use Rattle.rv_effect.specs.EffectView.{effect_value}
 use Rattle.hart_state.specs.WriterView.{operand_cells_of, tag_by, writes_by, after_writes_by}
 use Rattle.hart_state.specs.Asked.{AsksTake, HasAsked, BeginsShort, after_take}
 use Rattle.hart_state.proofs.Asking.{begins-short}
-use Rattle.hart_state.proofs.Giving.{begun-keeps, asks-held}
+use Rattle.hart_state.proofs.Giving.{early_writes-keeps, asks-held}
 
 -- some writes and then others
 abbrev pub in_two : HartAndProbes → HartAndProbes → HartAndProbes
@@ -40,37 +40,37 @@ after-append (w ∷ xs) ys h =
 abbrev pub with_got : Option ContextState → ℕ → HartAndProbes → HartAndProbes
 with_got got next a = record { hart = record a.hart { pc = next; held = got }; probes = a.probes }
 
-abbrev pub begun_and_loaded : Option ContextState → ℕ → HartAndProbes → HartAndProbes
-begun_and_loaded got rd one = in_two one (after_writes (loaded_writes rd (take_cell got)) one.hart)
+abbrev pub early_writes_and_loaded : Option ContextState → ℕ → HartAndProbes → HartAndProbes
+early_writes_and_loaded got rd one = in_two one (after_writes (loaded_writes rd (take_cell got)) one.hart)
 
 pub taken : (h : HartState) (step : StepResult) (a : Asked) (got : Option ContextState) → AsksTake step → HasAsked h step (Some a)
-    → after_take step got h ≡ with_got got a.next (begun_and_loaded got a.rd (after_writes_by (Machine a.cells) (writes_of a.effect.writes) h))
-taken h (Wants calls.Take begun rd next) a got asks k =
-    ap (λ (x : HartAndProbes). with_got got next x) (after-append begun (loaded_writes rd (take_cell got)) h)
-    ∙ ap (λ (b : List CellWrite). with_got got next (begun_and_loaded got rd (after_writes b h))) (sym k.begun_is)
-    ∙ ap (λ (r : ℕ). with_got got next (begun_and_loaded got r (after_writes_by (Machine a.cells) (writes_of a.effect.writes) h))) (sym k.rd_is)
-    ∙ ap (λ (n : ℕ). with_got got n (begun_and_loaded got a.rd (after_writes_by (Machine a.cells) (writes_of a.effect.writes) h))) (sym k.next_is)
-taken h (Wants calls.GiveReady begun rd next) a got asks k = absurd asks
-taken h (Wants calls.GiveDone begun rd next) a got asks k = absurd asks
+    → after_take step got h ≡ with_got got a.next (early_writes_and_loaded got a.rd (after_writes_by (Machine a.cells) (writes_of a.effect.writes) h))
+taken h (Wants calls.Take early_writes rd next) a got asks k =
+    ap (λ (x : HartAndProbes). with_got got next x) (after-append early_writes (loaded_writes rd (take_cell got)) h)
+    ∙ ap (λ (b : List CellWrite). with_got got next (early_writes_and_loaded got rd (after_writes b h))) (sym k.early_writes_is)
+    ∙ ap (λ (r : ℕ). with_got got next (early_writes_and_loaded got r (after_writes_by (Machine a.cells) (writes_of a.effect.writes) h))) (sym k.rd_is)
+    ∙ ap (λ (n : ℕ). with_got got n (early_writes_and_loaded got a.rd (after_writes_by (Machine a.cells) (writes_of a.effect.writes) h))) (sym k.next_is)
+taken h (Wants calls.GiveReady early_writes rd next) a got asks k = absurd asks
+taken h (Wants calls.GiveDone early_writes rd next) a got asks k = absurd asks
 taken h (Steps hart probes did) a got asks k = absurd asks
 taken h Wedged a got asks k = absurd asks
 
 pub take-found : (h : HartState) (step : StepResult) → AsksTake step → HasAsked h step None → ⊥
-take-found h (Wants calls.Take begun rd next) asks k = k
-take-found h (Wants calls.GiveReady begun rd next) asks k = k
-take-found h (Wants calls.GiveDone begun rd next) asks k = k
+take-found h (Wants calls.Take early_writes rd next) asks k = k
+take-found h (Wants calls.GiveReady early_writes rd next) asks k = k
+take-found h (Wants calls.GiveDone early_writes rd next) asks k = k
 take-found h (Steps hart probes did) asks k = asks
 take-found h Wedged asks k = asks
 
 pub take-short : (h : HartState) (step : StepResult) (a : Asked) → AsksTake step → HasAsked h step (Some a) → length (writes_of a.effect.writes) ≤ 2
-take-short h (Wants calls.Take begun rd next) a asks k = k.short
-take-short h (Wants calls.GiveReady begun rd next) a asks k = absurd asks
-take-short h (Wants calls.GiveDone begun rd next) a asks k = absurd asks
+take-short h (Wants calls.Take early_writes rd next) a asks k = k.short
+take-short h (Wants calls.GiveReady early_writes rd next) a asks k = absurd asks
+take-short h (Wants calls.GiveDone early_writes rd next) a asks k = absurd asks
 take-short h (Steps hart probes did) a asks k = absurd asks
 take-short h Wedged a asks k = absurd asks
 
 pub take-aligned : (h : HartState) (step : StepResult) (a : Asked) → HasAsked h step (Some a) → a.next % 4 ≡ 0
-take-aligned h (Wants call begun rd next) a k = k.aligned
+take-aligned h (Wants call early_writes rd next) a k = k.aligned
 take-aligned h (Steps hart probes did) a k = absurd k
 take-aligned h Wedged a k = absurd k
 
@@ -86,12 +86,12 @@ needs h instr call word cells code_effect rd next reach same effect rd_is next_i
     let of_step : writes_of code_effect.writes ≡ (effect_of instr h.pc (operand_values (operand_cells h instr word blank))).writes =
     writes ∙ ap (λ (o : OperandCells). (effect_of instr h.pc (operand_values o)).writes) same in
     subst (λ (r : Reach). HasAsked h (by_reach h instr r) (Some a)) reach (record {
-      begun_is = ap (λ (ws : List Write). writes_by (Machine cells) h.held ws) writes ∙ ap (λ (o : OperandCells). machine_writes h o (machine_effect h instr o)) same;
+      early_writes_is = ap (λ (ws : List Write). writes_by (Machine cells) h.held ws) writes ∙ ap (λ (o : OperandCells). machine_writes h o (machine_effect h instr o)) same;
       rd_is = rd_is;
       next_is = next_is;
       aligned = omega (arith, next_is, aligned);
       short = subst (λ (ws : List Write). BeginsShort call (length ws)) (sym of_step) (begins-short h instr call word (sym reach));
-      keeps = subst (λ (ws : List Write). (after_writes_by (Machine cells) ws h).hart.held ≡ h.held) (sym of_step) (begun-keeps h (tag_by (Machine cells)) instr call word (sym reach));
+      keeps = subst (λ (ws : List Write). (after_writes_by (Machine cells) ws h).hart.held ≡ h.held) (sym of_step) (early_writes-keeps h (tag_by (Machine cells)) instr call word (sym reach));
       gives = asks-held h instr call word (sym reach);
     })
 
@@ -103,7 +103,7 @@ take-parts h h1 step a got ws cell asks k ws_is cell_is h1_is =
     let one = after_writes_by (Machine a.cells) ws h in
     ap (λ (c : Cell). with_got got a.next (in_two one (after_writes (loaded_writes a.rd c) h1))) cell_is
     ∙ ap (λ (x : HartState). with_got got a.next (in_two one (after_writes (loaded_writes a.rd (take_cell got)) x))) h1_is
-    ∙ ap (λ (xs : List Write). with_got got a.next (begun_and_loaded got a.rd (after_writes_by (Machine a.cells) xs h))) ws_is
+    ∙ ap (λ (xs : List Write). with_got got a.next (early_writes_and_loaded got a.rd (after_writes_by (Machine a.cells) xs h))) ws_is
     ∙ sym (taken h step a got asks k)
 
 -- no more entries than writes

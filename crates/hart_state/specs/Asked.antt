@@ -15,13 +15,13 @@ use Rattle.hart_state.specs.WriterView.{writes_by, after_writes_by}
 
 -- the step asks for a context
 abbrev pub AsksTake : StepResult → Type 0
-AsksTake (Wants Take begun rd next) = Unit {0}
+AsksTake (Wants Take early_writes rd next) = Unit {0}
 AsksTake step = ⊥
 
 -- the step gives the held context back
 abbrev pub AsksGive : StepResult → Type 0
-AsksGive (Wants GiveReady begun rd next) = Unit {0}
-AsksGive (Wants GiveDone begun rd next) = Unit {0}
+AsksGive (Wants GiveReady early_writes rd next) = Unit {0}
+AsksGive (Wants GiveDone early_writes rd next) = Unit {0}
 AsksGive step = ⊥
 
 -- the step comes to this queue action
@@ -32,11 +32,11 @@ AsksFor GiveDone step = AsksGive step
 
 -- the hart after the answer to its step, and the entries; other steps take no answer
 abbrev pub after_take : StepResult → Option ContextState → HartState → HartAndProbes
-after_take (Wants call begun rd next) got h = answer_take begun rd next got h
+after_take (Wants call early_writes rd next) got h = answer_take early_writes rd next got h
 after_take step got h = no_writes h
 
 abbrev pub after_give : StepResult → HartState → HartAndProbes
-after_give (Wants call begun rd next) h = answer_give begun next h
+after_give (Wants call early_writes rd next) h = answer_give early_writes next h
 after_give step h = no_writes h
 
 -- a take begins with at most two writes
@@ -53,8 +53,8 @@ GivesHeld GiveDone None = ⊥
 GivesHeld GiveDone (Some c) = Unit {0}
 
 -- what the code found of a step that asks: its writes, which leave what is held, and the rest
-pub record IsAsked (h : HartState) (call : QueueCall) (begun : List CellWrite) (rd next : ℕ) (a : Asked) : Type 0 where
-  pub begun_is : writes_by (Machine a.cells) h.held (writes_of a.effect.writes) ≡ begun
+pub record IsAsked (h : HartState) (call : QueueCall) (early_writes : List CellWrite) (rd next : ℕ) (a : Asked) : Type 0 where
+  pub early_writes_is : writes_by (Machine a.cells) h.held (writes_of a.effect.writes) ≡ early_writes
   pub rd_is : a.rd ≡ rd
   pub next_is : a.next ≡ next
   pub aligned : a.next % 4 ≡ 0
@@ -64,8 +64,8 @@ pub record IsAsked (h : HartState) (call : QueueCall) (begun : List CellWrite) (
 
 -- what the code found of a step: something exactly where it asks
 abbrev pub HasAsked : HartState → StepResult → Option Asked → Type 0
-HasAsked h (Wants call begun rd next) (Some a) = IsAsked h call begun rd next a
-HasAsked h (Wants call begun rd next) None = ⊥
+HasAsked h (Wants call early_writes rd next) (Some a) = IsAsked h call early_writes rd next a
+HasAsked h (Wants call early_writes rd next) None = ⊥
 HasAsked h (Steps hart probes did) None = Unit {0}
 HasAsked h (Steps hart probes did) (Some a) = ⊥
 HasAsked h Wedged None = Unit {0}

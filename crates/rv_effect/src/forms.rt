@@ -148,18 +148,18 @@ pub fn operate(op: Alu, rd: RegNo, rs1: RegNo, rs2: RegNo, pc: u32, o: &Operands
 fn jump_to(port_a: Option<u32>, rd: RegNo, link: u32, target: u32) -> Effect
     ensures effect { effect_value result ≡ jump (port_write PortA (Moved Rs1) port_a) (result_writes rd link Constant) target }
 {
-    let begun = Writes {
+    let early_writes = Writes {
         port_a,
         ..Writes::none()
     };
     if target % 4 != 0 {
-        return latch_effect(begun, Next::Raises(0));
+        return latch_effect(early_writes, Next::Raises(0));
     }
     let value = constant(link);
     let writes = Writes {
         res: Some(value),
         register: Some(RegisterWrite { rd, value }),
-        ..begun
+        ..early_writes
     };
     latch_effect(writes, Next::Goes(target))
 }
@@ -249,7 +249,7 @@ fn address_result(at: u32) -> Option<Traced>
 
 /// The writes that a load begins with: the first port and its address.
 #[inline(always)]
-fn load_begun(at: u32, o: &Operands) -> Writes
+fn load_early_writes(at: u32, o: &Operands) -> Writes
     ensures writes { result ≡ record { port_a = Some o.now.rs1; port_b = None; res = Some (record { value = at; flow = Flow.Computed Operand.Rs1 }); unit = UnitWrite.Nothing; register = None } }
 {
     Writes {
@@ -266,7 +266,7 @@ fn give_loaded(kind: LoadKind, rd: RegNo, at: u32, pc: u32, o: &Operands) -> Eff
     ensures effect { effect_value result ≡ load_word kind rd pc at (port_a (operands_of o.now) ++ to Res at (Mixed (Rs1 ∷ []))) o.now.word }
 {
     match o.word {
-        None => latch_effect(load_begun(at, o), Next::Raises(5)),
+        None => latch_effect(load_early_writes(at, o), Next::Raises(5)),
         Some(word) => {
             let value = Traced {
                 value: extract(kind, word, at),
@@ -275,7 +275,7 @@ fn give_loaded(kind: LoadKind, rd: RegNo, at: u32, pc: u32, o: &Operands) -> Eff
             let writes = Writes {
                 unit: UnitWrite::Loads(word),
                 register: Some(RegisterWrite { rd, value }),
-                ..load_begun(at, o)
+                ..load_early_writes(at, o)
             };
             latch_effect(writes, Next::Goes(next_address(pc)))
         }
@@ -291,13 +291,13 @@ pub fn load(kind: LoadKind, rd: RegNo, rs1: RegNo, imm: i32, pc: u32, o: &Operan
     if load_aligned(kind, at) {
         give_loaded(kind, rd, at, pc, o)
     } else {
-        latch_effect(load_begun(at, o), Next::Raises(4))
+        latch_effect(load_early_writes(at, o), Next::Raises(4))
     }
 }
 
 /// The writes that a store begins with: both ports and its address.
 #[inline(always)]
-fn store_begun(at: u32, o: &Operands) -> Writes
+fn store_early_writes(at: u32, o: &Operands) -> Writes
     ensures writes { result ≡ record { port_a = Some o.now.rs1; port_b = Some o.now.rs2; res = Some (record { value = at; flow = Flow.Computed Operand.Rs1 }); unit = UnitWrite.Nothing; register = None } }
 {
     Writes {
@@ -313,7 +313,7 @@ fn put_stored(kind: StoreKind, at: u32, pc: u32, o: &Operands) -> Effect
     ensures effect { effect_value result ≡ store_word kind o.now.rs2 pc at (ports (operands_of o.now) ++ to Res at (Mixed (Rs1 ∷ []))) o.now.word }
 {
     match o.word {
-        None => latch_effect(store_begun(at, o), Next::Raises(7)),
+        None => latch_effect(store_early_writes(at, o), Next::Raises(7)),
         Some(word) => {
             let unit = UnitWrite::Stores {
                 value: o.rs2,
@@ -325,7 +325,7 @@ fn put_stored(kind: StoreKind, at: u32, pc: u32, o: &Operands) -> Effect
             };
             let writes = Writes {
                 unit,
-                ..store_begun(at, o)
+                ..store_early_writes(at, o)
             };
             latch_effect(writes, Next::Goes(next_address(pc)))
         }
@@ -341,6 +341,6 @@ pub fn store(kind: StoreKind, rs2: RegNo, rs1: RegNo, imm: i32, pc: u32, o: &Ope
     if store_aligned(kind, at) {
         put_stored(kind, at, pc, o)
     } else {
-        latch_effect(store_begun(at, o), Next::Raises(6))
+        latch_effect(store_early_writes(at, o), Next::Raises(6))
     }
 }

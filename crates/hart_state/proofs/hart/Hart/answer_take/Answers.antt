@@ -38,10 +38,10 @@ returns-clause-log g c = λ log s.
     let a = c.in-Some.asked in
     let parts = take-parts h c.write_all.new.self (hart_step c.args.code.now h) a c.args.got (writes_of a.effect.writes) c.take_cell-cell.result
     c.requires.asks c.in-Some.ensures.asked refl c.take_cell-cell.ensures.cell c.write_all.ensures.hart in
-    let begun = (after_writes_by (Machine a.cells) (writes_of a.effect.writes) h).probes in
+    let early_writes = (after_writes_by (Machine a.cells) (writes_of a.effect.writes) h).probes in
     let loaded = (after_writes (loaded_writes a.rd c.take_cell-cell.result) c.write_all.new.self).probes in
-    let both = c.write_loaded.ensures.log (log ++ begun) (c.write_all.ensures.log log s) in
-    let joined = append_assoc log begun loaded ∙ ap (λ (x : HartAndProbes). log ++ x.probes) parts in
+    let both = c.write_loaded.ensures.log (log ++ early_writes) (c.write_all.ensures.log log s) in
+    let joined = append_assoc log early_writes loaded ∙ ap (λ (x : HartAndProbes). log ++ x.probes) parts in
     subst (λ (ps : List LogEntry). g.K.Keeper.stands c.write_loaded.new.keeper ps) joined both
 
 pub returns-clause-room : goal.returns-clause-room
@@ -50,10 +50,10 @@ returns-clause-room g c =
     let a = c.in-Some.asked in
     let parts = take-parts h c.write_all.new.self (hart_step c.args.code.now h) a c.args.got (writes_of a.effect.writes) c.take_cell-cell.result
     c.requires.asks c.in-Some.ensures.asked refl c.take_cell-cell.ensures.cell c.write_all.ensures.hart in
-    let begun = (after_writes_by (Machine a.cells) (writes_of a.effect.writes) h).probes in
+    let early_writes = (after_writes_by (Machine a.cells) (writes_of a.effect.writes) h).probes in
     let loaded = (after_writes (loaded_writes a.rd c.take_cell-cell.result) c.write_all.new.self).probes in
-    let sum = length-append begun loaded in
+    let sum = length-append early_writes loaded in
     let first = c.write_all.ensures.room in
     let second = c.write_loaded.ensures.room in
-    let both : g.K.Keeper.room_of c.write_loaded.new.keeper + length (begun ++ loaded) ≡ g.K.Keeper.room_of c.args.keeper.now = omega (arith, sum, first, second) in
+    let both : g.K.Keeper.room_of c.write_loaded.new.keeper + length (early_writes ++ loaded) ≡ g.K.Keeper.room_of c.args.keeper.now = omega (arith, sum, first, second) in
     subst (λ (x : HartAndProbes). g.K.Keeper.room_of c.write_loaded.new.keeper + length x.probes ≡ g.K.Keeper.room_of c.args.keeper.now) parts both
