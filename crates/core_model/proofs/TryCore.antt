@@ -4,8 +4,11 @@ use Rattle.isa_model.specs.declared.task.Task.{Task}
 use Rattle.isa_model.specs.declared.latch.Latch.TheVariants.{Reg, PortA, PortB, Res, Load}
 use Rattle.hart_model.specs.declared.probe.Why.TheVariants.{Public, Value, Step}
 use Rattle.hart_model.specs.declared.probe.Side.TheVariants.{Now}
+use Rattle.hart_model.specs.declared.calls.QueueCall.TheVariants.{GiveDone}
 use Rattle.hart_model.specs.Csrs.{csr_cell, with_csr}
 use Rattle.hart_model.specs.Pmp.{is_allowed_by}
+use Rattle.hart_model.specs.HartState.{HartState, boot_hart}
+use Rattle.hart_model.specs.StepResult.{Wants, Wedged}
 use Rattle.hart_model.specs.UserStep.{user_step}
 use Rattle.hart_model.specs.MachineStep.{machine_step}
 use Rattle.core_model.specs.declared.home.Home.TheVariants.{Hart}
@@ -15,7 +18,7 @@ use Rattle.core_model.specs.declared.plan.Plan.{Plan}
 use Rattle.core_model.specs.declared.loaded.Loaded.{Loaded}
 use Rattle.core_model.specs.Homes.{home_of}
 use Rattle.core_model.specs.KernelWords.{kernel_code}
-use Rattle.core_model.specs.Core.{CoreState, boot_core, core_from, core_after, action_of}
+use Rattle.core_model.specs.Core.{CoreState, without_action, after_step, boot_core, core_from, core_after, action_of}
 
 -- addi x10,x0,42; addi x17,x0,1; ecall; addi x17,x0,0; ecall
 abbrev pub task : Task
@@ -81,3 +84,13 @@ entries_of_task = refl
 how_many_entries : length into_task.log ≡ 256
 unfolding core_from user_step machine_step is_allowed_by csr_cell with_csr
 how_many_entries = refl
+
+-- a hart that is wedged, or that gives and holds nothing, leaves the core as it was
+abbrev booted : CoreState
+booted = boot_core loaded kernel_code
+
+abbrev hart_3 : HartState
+hart_3 = boot_hart 3 kernel_code.take
+
+nothing_done : (after_step booted 3 hart_3 Wedged ≡ without_action booted) × (after_step booted 3 hart_3 (Wants GiveDone [] 0 0x1328) ≡ without_action booted)
+nothing_done = (refl, refl)

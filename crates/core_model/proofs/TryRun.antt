@@ -1,25 +1,21 @@
 -- A hart, the board and the kernel's words together: one task from boot to the empty take. The numbers are those of a worked example.
-use Rattle.std.proofs.Common.{◌≡◌, refl, ℕ, zero, suc, List, [], ◌∷◌, ◌++◌, length, map, Option, Some, None, ◌==◌, if◌then◌else◌}
+use Rattle.std.proofs.Common.{◌≡◌, refl, ℕ, zero, suc, List, [], ◌∷◌, ◌++◌, length, map, ◌==◌, if◌then◌else◌}
 use Rattle.std.specs.Prelude.{count_by}
 use Rattle.isa_model.specs.declared.task.Task.{Task}
 use Rattle.isa_model.specs.declared.ends.End.{End}
 use Rattle.isa_model.specs.declared.ends.End.TheVariants.{Exited, Faulted, BadCall, TapeEnd, OutOfSteps}
-use Rattle.hart_model.specs.declared.calls.QueueCall.{QueueCall}
-use Rattle.hart_model.specs.declared.calls.QueueCall.TheVariants.{Take, GiveReady, GiveDone}
 use Rattle.hart_model.specs.declared.probe.Probe.{Probe}
 use Rattle.hart_model.specs.declared.probe.Why.{Why}
 use Rattle.hart_model.specs.declared.probe.Why.TheVariants.{Public, Value, Step, Unexplained}
 use Rattle.hart_model.specs.Csrs.{csr_cell, with_csr}
 use Rattle.hart_model.specs.Pmp.{is_allowed_by}
 use Rattle.hart_model.specs.Probes.{kind_of_latch}
-use Rattle.hart_model.specs.Context.{ContextState, DoneState, fresh_body}
+use Rattle.hart_model.specs.Context.{DoneState, fresh_body}
 use Rattle.hart_model.specs.HartState.{HartState, boot_hart}
-use Rattle.hart_model.specs.Writes.{HartAndProbes, CellWrite}
-use Rattle.hart_model.specs.StepResult.{StepResult, Steps, Wants, Wedged}
 use Rattle.hart_model.specs.UserStep.{user_step}
 use Rattle.hart_model.specs.MachineStep.{machine_step}
-use Rattle.hart_model.specs.HartStep.{hart_step, answer_take, answer_give}
-use Rattle.core_model.specs.Board.{BoardState, Taken, boot_board, take_of, give_ready_of, give_done_of}
+use Rattle.core_model.specs.Board.{BoardState, boot_board}
+use Rattle.core_model.specs.BoardStep.{BoardStep, board_step_of}
 use Rattle.core_model.specs.KernelWords.{kernel_words}
 
 -- one hart and the board, with the entries so far
@@ -28,32 +24,17 @@ record Run : Type 0 where
   board : BoardState
   log : List Probe
 
-abbrev with_step : Run → HartAndProbes → BoardState → Run
-with_step r a board = record { hart = a.hart; board = board; log = r.log ++ a.probes }
-
-abbrev after_take : Run → List CellWrite → ℕ → ℕ → Taken → Run
-after_take r begun rd next t = with_step r (answer_take begun rd next t.got r.hart) t.board
-
-abbrev after_done : Run → List CellWrite → ℕ → ContextState → Option End → Run
-after_done r begun next c None = r
-after_done r begun next c (Some end) = with_step r (answer_give begun next r.hart) (give_done_of r.board 0 c end)
-
-abbrev after_call : Run → QueueCall → List CellWrite → ℕ → ℕ → Option ContextState → Run
-after_call r Take begun rd next held = after_take r begun rd next (take_of r.board 0)
-after_call r call begun rd next None = r
-after_call r GiveReady begun rd next (Some c) = with_step r (answer_give begun next r.hart) (give_ready_of r.board 0 c)
-after_call r GiveDone begun rd next (Some c) = after_done r begun next c c.end
-
-abbrev after_step : Run → StepResult → Run
-after_step r (Steps h probes did) = with_step r (record { hart = h; probes = probes }) r.board
-after_step r (Wants call begun rd next) = after_call r call begun rd next r.hart.held
-after_step r Wedged = r
+-- the run with what a step leaves
+abbrev with_step : Run → BoardStep → Run
+with_step r s = record { hart = s.hart; board = s.board; log = r.log ++ s.probes }
 
 -- steps until there are so many actions, and at most so many steps
 run_to : ℕ → ℕ → Run → Run
 unfolding user_step machine_step
 run_to actions zero r = r
-run_to actions (suc n) r = if length r.board.order == actions then r else run_to actions n (after_step r (hart_step kernel_words r.hart))
+run_to actions (suc n) r =
+    if length r.board.order == actions then r
+    else run_to actions n (with_step r (board_step_of kernel_words r.board 0 r.hart))
 
 -- one slot and one task of fuel 5
 abbrev at_boot : Task → Run

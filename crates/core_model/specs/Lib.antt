@@ -2,10 +2,10 @@ pub mod Plans
 pub mod Events
 pub mod Bands
 pub mod Board
+pub mod BoardStep
 pub mod Homes
 pub mod KernelText
 pub mod KernelWords
-pub mod Limits
 pub mod Loaded
 pub mod Core
 pub mod Orders

@@ -10,7 +10,7 @@ use Rattle.core_model.specs.declared.event.OrderRun.{OrderRun}
 use Rattle.core_model.specs.declared.world.World.{World}
 use Rattle.core_model.specs.declared.loaded.Loaded.{Loaded}
 use Rattle.core_model.specs.Events.{hart_of, event_count, entry_count}
-use Rattle.core_model.specs.Limits.{max_harts, max_slots, max_tasks, max_tape_words, max_band, max_quantum, max_quanta, max_worlds, max_events, max_order_entries, max_action_bound}
+use Rattle.isa_model.specs.Limits.{max_harts, max_slots, max_tasks, max_tape_words, max_band, max_quantum, max_quanta, max_worlds, max_events, max_order_entries, max_action_bound}
 
 -- How many queue actions there can be at most, by the quanta that the plans list, the sum of the fuels, the tasks and the harts. A
 -- take that gives a context draws a listed quantum, or an instruction is executed before the give, or the fuel is used up, which

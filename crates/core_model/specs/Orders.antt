@@ -11,7 +11,7 @@ use Rattle.core_model.specs.declared.action.Action.{Action}
 use Rattle.core_model.specs.declared.action.Action.TheVariants as actions
 use Rattle.core_model.specs.declared.plan.Plan.{Plan}
 use Rattle.core_model.specs.declared.loaded.Loaded.{Loaded}
-use Rattle.core_model.specs.Limits.{max_quantum}
+use Rattle.isa_model.specs.Limits.{max_quantum}
 use Rattle.core_model.specs.Plans.{quantum_after}
 use Rattle.core_model.specs.KernelWords.{KernelCodeState}
 use Rattle.core_model.specs.Core.{CoreState, CoreAndAction, boot_core, event_result, core_after}

@@ -64,7 +64,7 @@ is_at_port code h = port_by_word h (kernel_word_at code h.pc)
 -- what a step leaves that goes on at the word after the pc
 abbrev pub next_word : ℕ → StepResult → Option HartAndProbes
 next_word pc (Steps h probes did) = if h.pc == pc + 4 then Some (record { hart = h; probes = probes }) else None
-next_word pc (Wants call begun rd next) = None
+next_word pc (Wants call early_writes rd next) = None
 next_word pc Wedged = None
 
 -- One instruction of a part. None where it reaches a port, comes to no end, or doesn't go on at the word after it.
