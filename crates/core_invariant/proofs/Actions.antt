@@ -62,13 +62,13 @@ module _ (k : KernelParts) (loaded : Loaded) (one : EachHart loaded.tasks k) (c 
     held-is-out context holds = filter_is_in (on_hart hart) c.board.out [] (out_entry hart context) (kept.out hart h is ∙ ap (entries_held hart) holds)
 
     -- A hart that wants to take holds nothing, and nothing is out on it.
-    pub may-take : (begun : List CellWrite) (rd next : ℕ) → hart_step k.code.words h ≡ Wants Take begun rd next
+    pub may-take : (early_writes : List CellWrite) (rd next : ℕ) → hart_step k.code.words h ≡ Wants Take early_writes rd next
         → (h.held ≡ None) × All (λ (o : OutEntry). o.hart ≢ hart) c.board.out
-    may-take begun rd next wants = let none = one.holds_none hart h begun rd next (kept.harts hart h is) wants in (none, nothing-out none)
+    may-take early_writes rd next wants = let none = one.holds_none hart h early_writes rd next (kept.harts hart h is) wants in (none, nothing-out none)
 
-    pub may-give-ready : (begun : List CellWrite) (rd next : ℕ) → hart_step k.code.words h ≡ Wants GiveReady begun rd next → MayGiveReady c hart h
-    may-give-ready begun rd next wants =
-        let gives = one.gives_ready hart h begun rd next (kept.harts hart h is) wants in
+    pub may-give-ready : (early_writes : List CellWrite) (rd next : ℕ) → hart_step k.code.words h ≡ Wants GiveReady early_writes rd next → MayGiveReady c hart h
+    may-give-ready early_writes rd next wants =
+        let gives = one.gives_ready hart h early_writes rd next (kept.harts hart h is) wants in
         record {
           context = gives.context;
           held = gives.held;
@@ -77,9 +77,9 @@ module _ (k : KernelParts) (loaded : Loaded) (one : EachHart loaded.tasks k) (c 
           stands = gives.given.ready.stands;
         }
 
-    pub may-give-done : (begun : List CellWrite) (rd next : ℕ) → hart_step k.code.words h ≡ Wants GiveDone begun rd next → MayGiveDone c hart h
-    may-give-done begun rd next wants =
-        let gives = one.gives_done hart h begun rd next (kept.harts hart h is) wants in
+    pub may-give-done : (early_writes : List CellWrite) (rd next : ℕ) → hart_step k.code.words h ≡ Wants GiveDone early_writes rd next → MayGiveDone c hart h
+    may-give-done early_writes rd next wants =
+        let gives = one.gives_done hart h early_writes rd next (kept.harts hart h is) wants in
         record {
           context = gives.context;
           held = gives.held;

@@ -15,8 +15,8 @@ use Rattle.core_invariant.proofs.Takes.{wants-take}
 use Rattle.core_invariant.proofs.Idle.{idles}
 
 -- At a cut point it is the take or the give that the action is of.
-module _ (k : KernelParts) (kernel : IsKernel k) (tasks : List Task) (number : ℕ) (h : HartState) (begun : List CellWrite) (rd next : ℕ) where
-  pub takes-at : IsAtCutPoint tasks k number h → hart_step k.code.words h ≡ Wants Take begun rd next
+module _ (k : KernelParts) (kernel : IsKernel k) (tasks : List Task) (number : ℕ) (h : HartState) (early_writes : List CellWrite) (rd next : ℕ) where
+  pub takes-at : IsAtCutPoint tasks k number h → hart_step k.code.words h ≡ Wants Take early_writes rd next
       → IsEmptyHanded tasks number (middle_at k + 4 * take_index) h
   takes-at (inl user) e = let on = user-step-leads tasks number k.code.words h user.0 user.1 in absurd (cc (sym e ∙ on.step))
   takes-at (inr (inl ready)) e = absurd (cc (sym e ∙ wants-give-ready k kernel.linked tasks number h ready.0 ready.1))
@@ -24,7 +24,7 @@ module _ (k : KernelParts) (kernel : IsKernel k) (tasks : List Task) (number : �
   takes-at (inr (inr (inr (inl takes)))) e = takes
   takes-at (inr (inr (inr (inr idle)))) e = let on = idles k kernel.linked tasks number h idle in absurd (cc (sym e ∙ on.step_is))
 
-  pub gives-ready-at : IsAtCutPoint tasks k number h → hart_step k.code.words h ≡ Wants GiveReady begun rd next
+  pub gives-ready-at : IsAtCutPoint tasks k number h → hart_step k.code.words h ≡ Wants GiveReady early_writes rd next
       → ((c : ContextState) × IsGivingReady tasks number (middle_at k + 4 * give_ready_index) h c)
   gives-ready-at (inl user) e = let on = user-step-leads tasks number k.code.words h user.0 user.1 in absurd (cc (sym e ∙ on.step))
   gives-ready-at (inr (inl ready)) e = ready
@@ -32,7 +32,7 @@ module _ (k : KernelParts) (kernel : IsKernel k) (tasks : List Task) (number : �
   gives-ready-at (inr (inr (inr (inl takes)))) e = absurd (cc (sym e ∙ wants-take k kernel.linked tasks number h takes))
   gives-ready-at (inr (inr (inr (inr idle)))) e = let on = idles k kernel.linked tasks number h idle in absurd (cc (sym e ∙ on.step_is))
 
-  pub gives-done-at : IsAtCutPoint tasks k number h → hart_step k.code.words h ≡ Wants GiveDone begun rd next
+  pub gives-done-at : IsAtCutPoint tasks k number h → hart_step k.code.words h ≡ Wants GiveDone early_writes rd next
       → ((c : ContextState) × IsGivingDone tasks number (middle_at k + 4 * give_done_index) h c)
   gives-done-at (inl user) e = let on = user-step-leads tasks number k.code.words h user.0 user.1 in absurd (cc (sym e ∙ on.step))
   gives-done-at (inr (inl ready)) e = absurd (cc (sym e ∙ wants-give-ready k kernel.linked tasks number h ready.0 ready.1))

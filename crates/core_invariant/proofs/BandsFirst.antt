@@ -15,7 +15,8 @@ use Rattle.core_model.specs.declared.action.Action.{Action}
 use Rattle.core_model.specs.declared.action.Action.TheVariants as actions
 use Rattle.core_model.specs.Board.{BoardState, Front, all_ready, goes_first, front_of, take_from, take_of, give_ready_of, give_done_of, with_next_admitted}
 use Rattle.core_model.specs.Bands.{AreInTheirBands}
-use Rattle.core_model.specs.Core.{CoreState, take_action, boot_core, boot_bodies, after_give_done, after_call, after_step, after_go, after_tick, after_event, action_of, core_from, core_after}
+use Rattle.core_model.specs.BoardStep.{take_action, board_step_by_give_done, board_step_by_call, board_step}
+use Rattle.core_model.specs.Core.{CoreState, boot_core, boot_bodies, after_go, after_tick, after_event, action_of, core_from, core_after}
 use Rattle.core_model.proofs.Lists.{some-is}
 use Rattle.core_model.proofs.BandsInOrder.{bands-go-in-order}
 use Rattle.core_invariant.specs.BandOrder.{BandsAlwaysGoFirst}
@@ -50,26 +51,26 @@ module _ (bands : List ℕ) where
     lists = bands-go-in-order.gives_done b hart c end has.lists;
   }
 
-  call_has : (c : CoreState) (hart : ℕ) (h : HartState) (call : QueueCall) (begun : List CellWrite) (rd next : ℕ) (held : Option ContextState)
-      → HasBands bands c.board → HasBands bands (after_call c hart h call begun rd next held).core.board
-  call_has c hart h Take begun rd next held has = taken c.board hart has
-  call_has c hart h GiveReady begun rd next None has = has
-  call_has c hart h GiveDone begun rd next None has = has
-  call_has c hart h GiveReady begun rd next (Some held) has = given_ready c.board hart held has
-  call_has c hart h GiveDone begun rd next (Some held) has = done_has held.end
+  call_has : (b : BoardState) (hart : ℕ) (h : HartState) (call : QueueCall) (early_writes : List CellWrite) (rd next : ℕ) (held : Option ContextState)
+      → HasBands bands b → HasBands bands (board_step_by_call b hart h call early_writes rd next held).board
+  call_has b hart h Take early_writes rd next held has = taken b hart has
+  call_has b hart h GiveReady early_writes rd next None has = has
+  call_has b hart h GiveDone early_writes rd next None has = has
+  call_has b hart h GiveReady early_writes rd next (Some held) has = given_ready b hart held has
+  call_has b hart h GiveDone early_writes rd next (Some held) has = done_has held.end
     where
-      done_has : (end : Option End) → HasBands bands (after_give_done c hart h begun next held end).core.board
+      done_has : (end : Option End) → HasBands bands (board_step_by_give_done b hart h early_writes next held end).board
       done_has None = has
-      done_has (Some end) = given_done c.board hart held end has
+      done_has (Some end) = given_done b hart held end has
 
-  step_has : (c : CoreState) (hart : ℕ) (h : HartState) (step : StepResult) → HasBands bands c.board → HasBands bands (after_step c hart h step).core.board
-  step_has c hart h (Steps after probes did) has = has
-  step_has c hart h (Wants call begun rd next) has = call_has c hart h call begun rd next h.held has
-  step_has c hart h Wedged has = has
+  step_has : (b : BoardState) (hart : ℕ) (h : HartState) (step : StepResult) → HasBands bands b → HasBands bands (board_step b hart h step).board
+  step_has b hart h (Steps after probes did) has = has
+  step_has b hart h (Wants call early_writes rd next) has = call_has b hart h call early_writes rd next h.held has
+  step_has b hart h Wedged has = has
 
   go_has : (code : List ℕ) (c : CoreState) (hart : ℕ) (o : Option HartState) → HasBands bands c.board → HasBands bands (after_go code c hart o).core.board
   go_has code c hart None has = has
-  go_has code c hart (Some h) has = step_has c hart h (hart_step code h) has
+  go_has code c hart (Some h) has = step_has c.board hart h (hart_step code h) has
 
   tick_has : (c : CoreState) (hart : ℕ) (o : Option HartState) → HasBands bands c.board → HasBands bands (after_tick c hart o).board
   tick_has c hart None has = has
@@ -96,26 +97,27 @@ got_takes : (b : BoardState) (hart task : ℕ) (got : Option ContextState) → (
 got_takes b hart task None is e = absurd (cc e)
 got_takes b hart task (Some got) is e = (got, is, ap took (some-is e))
 
-call_takes : (c : CoreState) (hart task : ℕ) (h : HartState) (call : QueueCall) (begun : List CellWrite) (rd next : ℕ) (held : Option ContextState)
-    → (after_call c hart h call begun rd next held).action ≡ Some (actions.Took task) → Takes c.board hart task
-call_takes c hart task h Take begun rd next held e = got_takes c.board hart task (take_of c.board hart).got refl e
-call_takes c hart task h GiveReady begun rd next None e = absurd (cc e)
-call_takes c hart task h GiveDone begun rd next None e = absurd (cc e)
-call_takes c hart task h GiveReady begun rd next (Some held) e = absurd (cc e)
-call_takes c hart task h GiveDone begun rd next (Some held) e = done_takes held.end e
+call_takes : (b : BoardState) (hart task : ℕ) (h : HartState) (call : QueueCall) (early_writes : List CellWrite) (rd next : ℕ) (held : Option ContextState)
+    → (board_step_by_call b hart h call early_writes rd next held).action ≡ Some (actions.Took task) → Takes b hart task
+call_takes b hart task h Take early_writes rd next held e = got_takes b hart task (take_of b hart).got refl e
+call_takes b hart task h GiveReady early_writes rd next None e = absurd (cc e)
+call_takes b hart task h GiveDone early_writes rd next None e = absurd (cc e)
+call_takes b hart task h GiveReady early_writes rd next (Some held) e = absurd (cc e)
+call_takes b hart task h GiveDone early_writes rd next (Some held) e = done_takes held.end e
   where
-    done_takes : (end : Option End) → (after_give_done c hart h begun next held end).action ≡ Some (actions.Took task) → Takes c.board hart task
+    done_takes : (end : Option End) → (board_step_by_give_done b hart h early_writes next held end).action ≡ Some (actions.Took task) → Takes b hart task
     done_takes None e = absurd (cc e)
     done_takes (Some end) e = absurd (cc e)
 
-step_takes : (c : CoreState) (hart task : ℕ) (h : HartState) (step : StepResult) → (after_step c hart h step).action ≡ Some (actions.Took task) → Takes c.board hart task
-step_takes c hart task h (Steps after probes did) e = absurd (cc e)
-step_takes c hart task h (Wants call begun rd next) e = call_takes c hart task h call begun rd next h.held e
-step_takes c hart task h Wedged e = absurd (cc e)
+step_takes : (b : BoardState) (hart task : ℕ) (h : HartState) (step : StepResult) → (board_step b hart h step).action ≡ Some (actions.Took task)
+    → Takes b hart task
+step_takes b hart task h (Steps after probes did) e = absurd (cc e)
+step_takes b hart task h (Wants call early_writes rd next) e = call_takes b hart task h call early_writes rd next h.held e
+step_takes b hart task h Wedged e = absurd (cc e)
 
 go_takes : (code : List ℕ) (c : CoreState) (hart task : ℕ) (o : Option HartState) → (after_go code c hart o).action ≡ Some (actions.Took task) → Takes c.board hart task
 go_takes code c hart task None e = absurd (cc e)
-go_takes code c hart task (Some h) e = step_takes c hart task h (hart_step code h) e
+go_takes code c hart task (Some h) e = step_takes c.board hart task h (hart_step code h) e
 
 -- what such a take finds
 second_alone : (b : BoardState) (hart task : ℕ) (bands : List ℕ) → HasBands bands b → Takes b hart task → (get_or bands task 0 == 0) ≡ false

@@ -18,7 +18,8 @@ use Rattle.core_model.specs.declared.event.Event.TheVariants.{Go, Tick}
 use Rattle.core_model.specs.declared.loaded.Loaded.{Loaded}
 use Rattle.core_model.specs.Board.{BoardState, OutEntry, out_entry, take_from, give_ready_of, give_done_of, Front, all_ready, front_of}
 use Rattle.core_model.proofs.ReadyLists.{front-is}
-use Rattle.core_model.specs.Core.{CoreState, with_hart, after_take, after_give_done, after_call, after_step, after_go, after_tick, after_event, core_from}
+use Rattle.core_model.specs.BoardStep.{BoardStep, board_step_by_take, board_step_by_give_done, board_step_by_call}
+use Rattle.core_model.specs.Core.{CoreState, with_hart, with_board_step, after_step, after_go, after_tick, after_event, core_from}
 use Rattle.core_model.specs.Explained.{IsExplained}
 use Rattle.core_model.specs.Soundness.{IsCoreSound, IsWaitingCase, IsReadyCase, entries_held}
 use Rattle.core_invariant.specs.KernelStates.{KernelParts}
@@ -91,52 +92,56 @@ module _ (k : KernelParts) (loaded : Loaded) (one : EachHart loaded.tasks k) whe
       exists : hart < loaded.harts
       exists = subst (λ n. hart < n) kept.hart_count (slice_get_within c.harts hart h is)
 
+      -- the core is kept after what the hart's step comes to
+      abbrev KeptAfter : BoardStep → Type 0
+      KeptAfter s = IsCoreKept k loaded (with_board_step c hart s).core
+
       -- a hart that holds this has just this out
       mine : (held : Option ContextState) → h.held ≡ held → filter (on_hart hart) c.board.out ≡ entries_held hart held
       mine held e = kept.out hart h is ∙ ap (entries_held hart) e
 
-      take-kept : (begun : List CellWrite) (rd next : ℕ) (front : Option Front) → hart_step k.code.words h ≡ Wants Take begun rd next
+      take-kept : (early_writes : List CellWrite) (rd next : ℕ) (front : Option Front) → hart_step k.code.words h ≡ Wants Take early_writes rd next
           → front_of c.board.ready.first c.board.ready.second ≡ front
-          → IsCoreKept k loaded (after_take c hart h begun rd next (take_from c.board hart front)).core
-      take-kept begun rd next None wants e =
-          let none = mine None (one.holds_none hart h begun rd next way wants) in
-          with-hart-kept (answer_take begun rd next None h) (take_from c.board hart None).board []
-          (one.takes hart h begun rd next None way wants tt) (empty-board k loaded c kept hart none)
-      take-kept begun rd next (Some f) wants e =
-          let none = mine None (one.holds_none hart h begun rd next way wants) in
+          → KeptAfter (board_step_by_take h early_writes rd next (take_from c.board hart front))
+      take-kept early_writes rd next None wants e =
+          let none = mine None (one.holds_none hart h early_writes rd next way wants) in
+          with-hart-kept (answer_take early_writes rd next None h) (take_from c.board hart None).board []
+          (one.takes hart h early_writes rd next None way wants tt) (empty-board k loaded c kept hart none)
+      take-kept early_writes rd next (Some f) wants e =
+          let none = mine None (one.holds_none hart h early_writes rd next way wants) in
           let in_front = front-is c.board.ready.first c.board.ready.second f e in
           let can = All-head (IsReadyContext loaded.tasks) f.context (all_ready f.left) (subst (All (IsReadyContext loaded.tasks)) in_front kept.ready) in
-          with-hart-kept (answer_take begun rd next (Some f.context) h) (take_from c.board hart (Some f)).board (out_entry hart f.context ∷ [])
-          (one.takes hart h begun rd next (Some f.context) way wants can) (taken-board k loaded c kept hart f e exists none)
+          with-hart-kept (answer_take early_writes rd next (Some f.context) h) (take_from c.board hart (Some f)).board (out_entry hart f.context ∷ [])
+          (one.takes hart h early_writes rd next (Some f.context) way wants can) (taken-board k loaded c kept hart f e exists none)
 
-      give_ready-kept : (begun : List CellWrite) (rd next : ℕ) → GivesReady loaded.tasks k hart h begun next
-          → IsCoreKept k loaded (after_call c hart h GiveReady begun rd next h.held).core
-      give_ready-kept begun rd next gives =
-          let P : Option ContextState → Type 0 = λ o. IsCoreKept k loaded (after_call c hart h GiveReady begun rd next o).core in
-          subst P (sym gives.held) (with-hart-kept (answer_give begun next h) (give_ready_of c.board hart gives.context) [] gives.after
+      give_ready-kept : (early_writes : List CellWrite) (rd next : ℕ) → GivesReady loaded.tasks k hart h early_writes next
+          → KeptAfter (board_step_by_call c.board hart h GiveReady early_writes rd next h.held)
+      give_ready-kept early_writes rd next gives =
+          let P : Option ContextState → Type 0 = λ o. KeptAfter (board_step_by_call c.board hart h GiveReady early_writes rd next o) in
+          subst P (sym gives.held) (with-hart-kept (answer_give early_writes next h) (give_ready_of c.board hart gives.context) [] gives.after
           (ready-board k loaded c kept hart gives.context (mine (Some gives.context) gives.held) gives.given))
 
-      give_done-kept : (begun : List CellWrite) (rd next : ℕ) → GivesDone loaded.tasks k hart h begun next
-          → IsCoreKept k loaded (after_call c hart h GiveDone begun rd next h.held).core
-      give_done-kept begun rd next gives =
+      give_done-kept : (early_writes : List CellWrite) (rd next : ℕ) → GivesDone loaded.tasks k hart h early_writes next
+          → KeptAfter (board_step_by_call c.board hart h GiveDone early_writes rd next h.held)
+      give_done-kept early_writes rd next gives =
           let done = gives.given in
-          let P : Option ContextState → Type 0 = λ o. IsCoreKept k loaded (after_call c hart h GiveDone begun rd next o).core in
-          let Q : Option End → Type 0 = λ o. IsCoreKept k loaded (after_give_done c hart h begun next gives.context o).core in
+          let P : Option ContextState → Type 0 = λ o. KeptAfter (board_step_by_call c.board hart h GiveDone early_writes rd next o) in
+          let Q : Option End → Type 0 = λ o. KeptAfter (board_step_by_give_done c.board hart h early_writes next gives.context o) in
           subst P (sym gives.held) (subst Q (sym done.has_end)
-          (with-hart-kept (answer_give begun next h) (give_done_of c.board hart gives.context done.end) [] gives.after
+          (with-hart-kept (answer_give early_writes next h) (give_done_of c.board hart gives.context done.end) [] gives.after
           (done-board k loaded c kept hart gives.context done.end (mine (Some gives.context) gives.held) done done.ended)))
 
-      call-kept : (call : QueueCall) (begun : List CellWrite) (rd next : ℕ) → hart_step k.code.words h ≡ Wants call begun rd next
-          → IsCoreKept k loaded (after_call c hart h call begun rd next h.held).core
-      call-kept Take begun rd next wants = take-kept begun rd next (front_of c.board.ready.first c.board.ready.second) wants refl
-      call-kept GiveReady begun rd next wants = give_ready-kept begun rd next (one.gives_ready hart h begun rd next way wants)
-      call-kept GiveDone begun rd next wants = give_done-kept begun rd next (one.gives_done hart h begun rd next way wants)
+      call-kept : (call : QueueCall) (early_writes : List CellWrite) (rd next : ℕ) → hart_step k.code.words h ≡ Wants call early_writes rd next
+          → KeptAfter (board_step_by_call c.board hart h call early_writes rd next h.held)
+      call-kept Take early_writes rd next wants = take-kept early_writes rd next (front_of c.board.ready.first c.board.ready.second) wants refl
+      call-kept GiveReady early_writes rd next wants = give_ready-kept early_writes rd next (one.gives_ready hart h early_writes rd next way wants)
+      call-kept GiveDone early_writes rd next wants = give_done-kept early_writes rd next (one.gives_done hart h early_writes rd next way wants)
 
       step-kept : (r : StepResult) → hart_step k.code.words h ≡ r → IsCoreKept k loaded (after_step c hart h r).core
       step-kept (Steps after probes did) steps =
           with-hart-kept (record { hart = after; probes = probes }) c.board (entries_held hart h.held)
           (one.steps hart h after probes did way steps) (same-board k loaded c kept hart h is)
-      step-kept (Wants call begun rd next) wants = call-kept call begun rd next wants
+      step-kept (Wants call early_writes rd next) wants = call-kept call early_writes rd next wants
       step-kept Wedged wedged = absurd (one.never_wedged hart h way wedged)
 
     go-kept : (o : Option HartState) → slice_get c.harts hart ≡ o → IsCoreKept k loaded (after_go k.code.words c hart o).core

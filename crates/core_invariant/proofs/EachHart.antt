@@ -149,22 +149,22 @@ module _ (k : KernelParts) (kernel : IsKernel k) (paths-lead : PathsLead) (tasks
         | inr goes ↦ way-steps h g probes did (goes.1 false) e
       ]
 
-  module _ (h : HartState) (begun : List CellWrite) (rd next : ℕ) where
-    wants-only : (call : QueueCall) (g : HartState) (probes : List Probe) (did : Did) → Wants call begun rd next ≡ Steps g probes did → ⊥
+  module _ (h : HartState) (early_writes : List CellWrite) (rd next : ℕ) where
+    wants-only : (call : QueueCall) (g : HartState) (probes : List Probe) (did : Did) → Wants call early_writes rd next ≡ Steps g probes did → ⊥
     wants-only call g probes did e = cc e
 
-    take-start : Way h → hart_step k.code.words h ≡ Wants Take begun rd next → IsEmptyHanded tasks number (middle_at k + 4 * take_index) h
-    take-start way e = takes-at k kernel tasks number h begun rd next (at-start h way (Wants Take begun rd next) e (wants-only Take)) e
+    take-start : Way h → hart_step k.code.words h ≡ Wants Take early_writes rd next → IsEmptyHanded tasks number (middle_at k + 4 * take_index) h
+    take-start way e = takes-at k kernel tasks number h early_writes rd next (at-start h way (Wants Take early_writes rd next) e (wants-only Take)) e
 
-    kept-gives-ready : Way h → hart_step k.code.words h ≡ Wants GiveReady begun rd next → GivesReady tasks k number h begun next
+    kept-gives-ready : Way h → hart_step k.code.words h ≡ Wants GiveReady early_writes rd next → GivesReady tasks k number h early_writes next
     kept-gives-ready way e =
-        let at = gives-ready-at k kernel tasks number h begun rd next (at-start h way (Wants GiveReady begun rd next) e (wants-only GiveReady)) e in
-        gives-ready-kept k kernel tasks number h at.0 begun rd next at.1 e
+        let at = gives-ready-at k kernel tasks number h early_writes rd next (at-start h way (Wants GiveReady early_writes rd next) e (wants-only GiveReady)) e in
+        gives-ready-kept k kernel tasks number h at.0 early_writes rd next at.1 e
 
-    kept-gives-done : Way h → hart_step k.code.words h ≡ Wants GiveDone begun rd next → GivesDone tasks k number h begun next
+    kept-gives-done : Way h → hart_step k.code.words h ≡ Wants GiveDone early_writes rd next → GivesDone tasks k number h early_writes next
     kept-gives-done way e =
-        let at = gives-done-at k kernel tasks number h begun rd next (at-start h way (Wants GiveDone begun rd next) e (wants-only GiveDone)) e in
-        gives-done-kept k kernel tasks number h at.0 begun rd next at.1 e
+        let at = gives-done-at k kernel tasks number h early_writes rd next (at-start h way (Wants GiveDone early_writes rd next) e (wants-only GiveDone)) e in
+        gives-done-kept k kernel tasks number h at.0 early_writes rd next at.1 e
 
   wedged-nowhere : (h : HartState) → IsAtCutPoint tasks k number h → hart_step k.code.words h ≡ Wedged → ⊥
   wedged-nowhere h (inl user) e = let on = user-step-leads tasks number k.code.words h user.0 user.1 in cc (sym e ∙ on.step)
@@ -183,10 +183,10 @@ each-hart k kernel paths-lead tasks = record {
   is_sound = λ number h way. way-sound tasks k number h way;
   ticks = λ number h way. way-tick tasks k number h way;
   steps = λ number h g probes did way e. steps-kept k kernel paths-lead tasks number h g probes did way e;
-  holds_none = λ number h begun rd next way e. (take-start k kernel paths-lead tasks number h begun rd next way e).held;
-  takes = λ number h begun rd next got way e ready.
-      takes-kept k kernel tasks number paths-lead h begun rd next got (take-start k kernel paths-lead tasks number h begun rd next way e) e ready;
-  gives_ready = λ number h begun rd next way e. kept-gives-ready k kernel paths-lead tasks number h begun rd next way e;
-  gives_done = λ number h begun rd next way e. kept-gives-done k kernel paths-lead tasks number h begun rd next way e;
+  holds_none = λ number h early_writes rd next way e. (take-start k kernel paths-lead tasks number h early_writes rd next way e).held;
+  takes = λ number h early_writes rd next got way e ready.
+      takes-kept k kernel tasks number paths-lead h early_writes rd next got (take-start k kernel paths-lead tasks number h early_writes rd next way e) e ready;
+  gives_ready = λ number h early_writes rd next way e. kept-gives-ready k kernel paths-lead tasks number h early_writes rd next way e;
+  gives_done = λ number h early_writes rd next way e. kept-gives-done k kernel paths-lead tasks number h early_writes rd next way e;
   never_wedged = λ number h way e. never-wedged k kernel paths-lead tasks number h way e;
 }

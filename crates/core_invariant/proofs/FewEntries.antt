@@ -33,8 +33,9 @@ use Rattle.hart_model.specs.MachineStep.{OperandCells, Reach, Finds, NeedsQueue,
 use Rattle.hart_model.specs.HartStep.{hart_step, step_by_mode, loaded_writes, take_cell}
 use Rattle.core_model.specs.declared.event.Event.{Event}
 use Rattle.core_model.specs.declared.event.Event.TheVariants.{Go, Tick}
-use Rattle.core_model.specs.Board.{take_of}
-use Rattle.core_model.specs.Core.{CoreState, after_give_done, after_call, after_step, after_go, after_tick, after_event}
+use Rattle.core_model.specs.Board.{BoardState, take_of}
+use Rattle.core_model.specs.BoardStep.{board_step_by_give_done, board_step_by_call, board_step}
+use Rattle.core_model.specs.Core.{CoreState, after_step, after_go, after_tick, after_event}
 
 -- an effect that writes at most six latches
 abbrev pub IsFew : Effect → Type 0
@@ -51,17 +52,17 @@ jump_few before after target all some =
     cond_both (target % 4 == 0) (does (before ++ after) (Goes target)) (does before (Raises 0)) (λ (e : Effect). IsFew e) (λ t. all) (λ f. some)
 
 -- at most one for the old value, one for the scratch CSR and one for the register
-csr_few : (begun : List Write) (rd csr pc old : ℕ) (written : Bool) (new : ℕ) (flow : Flow) → length begun ≤ 1 → IsFew (csr_effect begun rd csr pc old written new flow)
-csr_few begun rd csr pc old written new flow few =
+csr_few : (early_writes : List Write) (rd csr pc old : ℕ) (written : Bool) (new : ℕ) (flow : Flow) → length early_writes ≤ 1 → IsFew (csr_effect early_writes rd csr pc old written new flow)
+csr_few early_writes rd csr pc old written new flow few =
     let first : List Write = if rd == 0 then [] else to latches.Res old (Moved OldCsr) in
     let second : List Write = if written && is_mscratch csr then to latches.Scr new flow else [] in
     let one : length first ≤ 1 = cond_both (rd == 0) [] (to latches.Res old (Moved OldCsr)) (λ (ws : List Write). length ws ≤ 1) (λ t. omega arith) (λ f. omega arith) in
     let two : length second ≤ 1 = cond_both (written && is_mscratch csr) (to latches.Scr new flow) [] (λ (ws : List Write). length ws ≤ 1) (λ t. omega arith) (λ f. omega arith) in
     let reg = reg_length rd old (Moved OldCsr) in
-    let all = length-append (begun ++ first ++ second) (to_reg rd old (Moved OldCsr)) in
-    let some = length-append (begun ++ first) second in
-    let front = length-append begun first in
-    let sum : length (begun ++ first ++ second ++ to_reg rd old (Moved OldCsr)) ≤ 6 = omega arith in
+    let all = length-append (early_writes ++ first ++ second) (to_reg rd old (Moved OldCsr)) in
+    let some = length-append (early_writes ++ first) second in
+    let front = length-append early_writes first in
+    let sum : length (early_writes ++ first ++ second ++ to_reg rd old (Moved OldCsr)) ≤ 6 = omega arith in
     sum
 
 -- Each row writes at most six.
@@ -80,16 +81,16 @@ row_few (Branch op rs1 rs2 off) pc o =
     (λ f. omega arith)
 row_few (Load kind rd rs1 imm) pc o =
     let at : ℕ = address o.rs1 imm in
-    let begun : List Write = port_a o ++ to latches.Res at (Mixed (Rs1 ∷ [])) in
-    cond_both (at % load_size kind == 0) (load_word kind rd pc at begun o.word) (does begun (Raises 4)) (λ (e : Effect). IsFew e) (λ t. loaded o.word) (λ f. omega arith)
+    let early_writes : List Write = port_a o ++ to latches.Res at (Mixed (Rs1 ∷ [])) in
+    cond_both (at % load_size kind == 0) (load_word kind rd pc at early_writes o.word) (does early_writes (Raises 4)) (λ (e : Effect). IsFew e) (λ t. loaded o.word) (λ f. omega arith)
   where
     loaded : (word : Option ℕ) → IsFew (load_word kind rd pc (address o.rs1 imm) (port_a o ++ to latches.Res (address o.rs1 imm) (Mixed (Rs1 ∷ []))) word)
     loaded None = omega arith
     loaded (Some word) = let r = reg_length rd (load_result kind word (address o.rs1 imm)) (loaded_flow kind) in omega arith
 row_few (Store kind rs2 rs1 imm) pc o =
     let at : ℕ = address o.rs1 imm in
-    let begun : List Write = ports o ++ to latches.Res at (Mixed (Rs1 ∷ [])) in
-    cond_both (at % store_size kind == 0) (store_word kind o.rs2 pc at begun o.word) (does begun (Raises 6)) (λ (e : Effect). IsFew e) (λ t. stored o.word) (λ f. omega arith)
+    let early_writes : List Write = ports o ++ to latches.Res at (Mixed (Rs1 ∷ [])) in
+    cond_both (at % store_size kind == 0) (store_word kind o.rs2 pc at early_writes o.word) (does early_writes (Raises 6)) (λ (e : Effect). IsFew e) (λ t. stored o.word) (λ f. omega arith)
   where
     stored : (word : Option ℕ) → IsFew (store_word kind o.rs2 pc (address o.rs1 imm) (ports o ++ to latches.Res (address o.rs1 imm) (Mixed (Rs1 ∷ []))) word)
     stored None = omega arith
@@ -129,7 +130,7 @@ probes_length (w ∷ ws) h = ap suc (probes_length ws (hart_with_cell h w.at w.c
 -- A step makes at most six entries, and what wants the queue has begun with at most six writes.
 abbrev pub IsFewStep : StepResult → Type 0
 IsFewStep (Steps hart probes did) = length probes ≤ 6
-IsFewStep (Wants call begun rd next) = length begun ≤ 6
+IsFewStep (Wants call early_writes rd next) = length early_writes ≤ 6
 IsFewStep Wedged = Unit {0}
 
 follow_few : (a : HartAndProbes) (next : Next) → length a.probes ≤ 6 → IsFewStep (after_user_writes a next)
@@ -220,16 +221,16 @@ one_length false w = omega arith
 loaded_length : (rd : ℕ) (cell : Cell) → length (loaded_writes rd cell) ≤ 2
 loaded_length rd cell = let one = one_length (rd == 0) (record { at = places.Reg rd; cell = cell }) in omega arith
 
-take_few : (begun : List CellWrite) (rd : ℕ) (got : Option ContextState) (h : HartState) → length begun ≤ 6
-    → length (after_writes (begun ++ loaded_writes rd (take_cell got)) h).probes ≤ 8
-take_few begun rd got h few =
-    let same = probes_length (begun ++ loaded_writes rd (take_cell got)) h in
-    let both = length-append begun (loaded_writes rd (take_cell got)) in
+take_few : (early_writes : List CellWrite) (rd : ℕ) (got : Option ContextState) (h : HartState) → length early_writes ≤ 6
+    → length (after_writes (early_writes ++ loaded_writes rd (take_cell got)) h).probes ≤ 8
+take_few early_writes rd got h few =
+    let same = probes_length (early_writes ++ loaded_writes rd (take_cell got)) h in
+    let both = length-append early_writes (loaded_writes rd (take_cell got)) in
     let two = loaded_length rd (take_cell got) in
     omega arith
 
-give_few : (begun : List CellWrite) (h : HartState) → length begun ≤ 6 → length (after_writes begun h).probes ≤ 8
-give_few begun h few = let same = probes_length begun h in omega arith
+give_few : (early_writes : List CellWrite) (h : HartState) → length early_writes ≤ 6 → length (after_writes early_writes h).probes ≤ 8
+give_few early_writes h few = let same = probes_length early_writes h in omega arith
 
 -- A step.
 pub hart_step_few : (code : List ℕ) (h : HartState) → IsFewStep (hart_step code h)
@@ -238,24 +239,27 @@ hart_step_few code h = mode_few code h h.csrs.mode
 grown_few : (log probes : List Probe) → length probes ≤ 8 → length (log ++ probes) ≤ length log + 8
 grown_few log probes few = let both = length-append log probes in omega arith
 
-call_few : (c : CoreState) (hart : ℕ) (h : HartState) (call : QueueCall) (begun : List CellWrite) (rd next : ℕ) (held : Option ContextState) → length begun ≤ 6
-    → length (after_call c hart h call begun rd next held).core.log ≤ length c.log + 8
-call_few c hart h Take begun rd next held few =
-    grown_few c.log (after_writes (begun ++ loaded_writes rd (take_cell (take_of c.board hart).got)) h).probes (take_few begun rd (take_of c.board hart).got h few)
-call_few c hart h GiveReady begun rd next None few = omega arith
-call_few c hart h GiveDone begun rd next None few = omega arith
-call_few c hart h GiveReady begun rd next (Some held) few = grown_few c.log (after_writes begun h).probes (give_few begun h few)
-call_few c hart h GiveDone begun rd next (Some held) few = end_few held.end
+call_few : (b : BoardState) (hart : ℕ) (h : HartState) (call : QueueCall) (early_writes : List CellWrite) (rd next : ℕ) (held : Option ContextState)
+    → length early_writes ≤ 6 → length (board_step_by_call b hart h call early_writes rd next held).probes ≤ 8
+call_few b hart h Take early_writes rd next held few = take_few early_writes rd (take_of b hart).got h few
+call_few b hart h GiveReady early_writes rd next None few = omega arith
+call_few b hart h GiveDone early_writes rd next None few = omega arith
+call_few b hart h GiveReady early_writes rd next (Some held) few = give_few early_writes h few
+call_few b hart h GiveDone early_writes rd next (Some held) few = end_few held.end
   where
-    end_few : (end : Option End) → length (after_give_done c hart h begun next held end).core.log ≤ length c.log + 8
+    end_few : (end : Option End) → length (board_step_by_give_done b hart h early_writes next held end).probes ≤ 8
     end_few None = omega arith
-    end_few (Some end) = grown_few c.log (after_writes begun h).probes (give_few begun h few)
+    end_few (Some end) = give_few early_writes h few
 
--- What a step comes to in a core makes at most eight entries.
+-- What a step comes to makes at most eight entries,
+board_few : (b : BoardState) (hart : ℕ) (h : HartState) (step : StepResult) → IsFewStep step → length (board_step b hart h step).probes ≤ 8
+board_few b hart h (Steps after probes did) few = omega (arith, few)
+board_few b hart h (Wants call early_writes rd next) few = call_few b hart h call early_writes rd next h.held few
+board_few b hart h Wedged few = omega arith
+
+-- and so it does in a core.
 pub step_few : (c : CoreState) (hart : ℕ) (h : HartState) (step : StepResult) → IsFewStep step → length (after_step c hart h step).core.log ≤ length c.log + 8
-step_few c hart h (Steps after probes did) few = grown_few c.log probes (omega arith)
-step_few c hart h (Wants call begun rd next) few = call_few c hart h call begun rd next h.held few
-step_few c hart h Wedged few = omega arith
+step_few c hart h step few = grown_few c.log (board_step c.board hart h step).probes (board_few c.board hart h step few)
 
 go_few : (code : List ℕ) (c : CoreState) (hart : ℕ) (o : Option HartState) → length (after_go code c hart o).core.log ≤ length c.log + 8
 go_few code c hart None = omega arith

@@ -44,7 +44,7 @@ same_grows a b e = subst (OutputGrows a) e (stays a)
 -- a step whose hart holds at least what this output says
 abbrev StepGrows : Option (List ℕ) → StepResult → Type 0
 StepGrows o (Steps after probes did) = OutputGrows o (held_output after.held)
-StepGrows o (Wants call begun rd next) = ⊤
+StepGrows o (Wants call early_writes rd next) = ⊤
 StepGrows o Wedged = ⊤
 
 word_keeps : (i : ℕ) (cell : Cell) (held : Option ContextState) → held_output (held_with_word i cell held) ≡ held_output held

@@ -24,7 +24,7 @@ use Rattle.core_invariant.specs.OneHart.{IsKept, IsGot, GivesReady, GivesDone}
 use Rattle.core_invariant.proofs.Waiting.{empty-sound, empty-ticked}
 use Rattle.core_invariant.proofs.Gives.{give_writes, wants-give-ready, wants-give-done, given-ready, given-done}
 use Rattle.core_invariant.proofs.Idle.{goes-on-empty, jumps-to-take, branches-to-idle, idles}
-use Rattle.core_invariant.proofs.Takes.{take_begun, wants-take, after-take, taken-x5, x5-ticked}
+use Rattle.core_invariant.proofs.Takes.{take_early_writes, wants-take, after-take, taken-x5, x5-ticked}
 use Rattle.core_invariant.proofs.TakenStands.{taken_setting, taken-setting-sound, pc_of, taken-stands}
 use Rattle.core_invariant.proofs.TakenPath.{IsRestored, task_csrs, to-mret}
 use Rattle.core_invariant.proofs.Returns.{returns}
@@ -74,17 +74,17 @@ module _ (k : KernelParts) (kernel : IsKernel k) (tasks : List Task) (number : �
           (IsAtCutPoint tasks k number) e there (λ g o. at-idle g o)
 
   -- a hart that gives a ready context is then at the take
-  pub gives-ready-kept : (h : HartState) (c : ContextState) (begun : List CellWrite) (rd next : ℕ)
+  pub gives-ready-kept : (h : HartState) (c : ContextState) (early_writes : List CellWrite) (rd next : ℕ)
       → IsGivingReady tasks number (middle_at k + 4 * give_ready_index) h c
-      → hart_step k.code.words h ≡ Wants GiveReady begun rd next → GivesReady tasks k number h begun next
-  gives-ready-kept h c begun rd next g wants =
+      → hart_step k.code.words h ≡ Wants GiveReady early_writes rd next → GivesReady tasks k number h early_writes next
+  gives-ready-kept h c early_writes rd next g wants =
       let known = wants-give-ready k kernel.linked tasks number h c g in
-      let same_begun : give_writes (public 0) ≡ begun = cc (known, wants) in
+      let same_early_writes : give_writes (public 0) ≡ early_writes = cc (known, wants) in
       let same_next : middle_at k + 4 * take_index ≡ next = cc (known, wants) in
       let given = given-ready k kernel.linked tasks number h c g in
       let P : List CellWrite → Type 0 = λ ws. GivesReady tasks k number h ws next in
       let Q : ℕ → Type 0 = λ n. GivesReady tasks k number h (give_writes (public 0)) n in
-      subst P same_begun (subst Q same_next (record {
+      subst P same_early_writes (subst Q same_next (record {
         context = c;
         held = g.held;
         given = g.given;
@@ -92,17 +92,17 @@ module _ (k : KernelParts) (kernel : IsKernel k) (tasks : List Task) (number : �
       }))
 
   -- one that gives an ended context comes to the take
-  pub gives-done-kept : (h : HartState) (c : ContextState) (begun : List CellWrite) (rd next : ℕ)
+  pub gives-done-kept : (h : HartState) (c : ContextState) (early_writes : List CellWrite) (rd next : ℕ)
       → IsGivingDone tasks number (middle_at k + 4 * give_done_index) h c
-      → hart_step k.code.words h ≡ Wants GiveDone begun rd next → GivesDone tasks k number h begun next
-  gives-done-kept h c begun rd next g wants =
+      → hart_step k.code.words h ≡ Wants GiveDone early_writes rd next → GivesDone tasks k number h early_writes next
+  gives-done-kept h c early_writes rd next g wants =
       let known = wants-give-done k kernel.linked tasks number h c g in
-      let same_begun : give_writes (public 1) ≡ begun = cc (known, wants) in
+      let same_early_writes : give_writes (public 1) ≡ early_writes = cc (known, wants) in
       let same_next : middle_at k + 4 * (give_done_index + 1) ≡ next = cc (known, wants) in
       let given = given-done k kernel.linked tasks number h c g in
       let P : List CellWrite → Type 0 = λ ws. GivesDone tasks k number h ws next in
       let Q : ℕ → Type 0 = λ n. GivesDone tasks k number h (give_writes (public 1)) n in
-      subst P same_begun (subst Q same_next (record {
+      subst P same_early_writes (subst Q same_next (record {
         context = c;
         held = g.held;
         given = g.given;
@@ -126,21 +126,21 @@ module _ (k : KernelParts) (kernel : IsKernel k) (tasks : List Task) (number : �
 
   -- the answers to a take, where there was nothing, and where there was a context
   pub takes-none : (h : HartState) → IsEmptyHanded tasks number (middle_at k + 4 * take_index) h
-      → IsKept tasks k number [] (answer_take take_begun 5 (middle_at k + 4 * (take_index + 1)) None h)
+      → IsKept tasks k number [] (answer_take take_early_writes 5 (middle_at k + 4 * (take_index + 1)) None h)
   takes-none h e =
       let after = after-take k kernel.linked tasks number h None e in
       record {
-        hart = way-to-idle (answer_take take_begun 5 (middle_at k + 4 * (take_index + 1)) None h).hart
+        hart = way-to-idle (answer_take take_early_writes 5 (middle_at k + 4 * (take_index + 1)) None h).hart
             (record { hart = after.0; held = refl }) (taken-x5 h (public 0) e.hart.registers);
         explained = after.1;
         holds = refl;
       }
 
   pub takes-some : PathsLead → (h : HartState) (c : ContextState) → IsEmptyHanded tasks number (middle_at k + 4 * take_index) h → IsReadyContext tasks c
-      → IsKept tasks k number (entries_held number (Some c)) (answer_take take_begun 5 (middle_at k + 4 * (take_index + 1)) (Some c) h)
+      → IsKept tasks k number (entries_held number (Some c)) (answer_take take_early_writes 5 (middle_at k + 4 * (take_index + 1)) (Some c) h)
   takes-some paths-lead h c e r =
       let after = after-take k kernel.linked tasks number h (Some c) e in
-      let f = (answer_take take_begun 5 (middle_at k + 4 * (take_index + 1)) (Some c) h).hart in
+      let f = (answer_take take_early_writes 5 (middle_at k + 4 * (take_index + 1)) (Some c) h).hart in
       let s = taken_setting tasks c in
       let ok = taken-setting-sound tasks c r in
       let stands = taken-stands tasks c r k number f after.0 refl (taken-x5 h (public (slot_address c.slot)) e.hart.registers) in
@@ -152,21 +152,21 @@ module _ (k : KernelParts) (kernel : IsKernel k) (tasks : List Task) (number : �
       record { hart = (12 + k.restore + 1, way); explained = after.1; holds = refl }
 
   takes : PathsLead → (h : HartState) (got : Option ContextState) → IsEmptyHanded tasks number (middle_at k + 4 * take_index) h → IsGot tasks got
-      → IsKept tasks k number (entries_held number got) (answer_take take_begun 5 (middle_at k + 4 * (take_index + 1)) got h)
+      → IsKept tasks k number (entries_held number got) (answer_take take_early_writes 5 (middle_at k + 4 * (take_index + 1)) got h)
   takes paths-lead h None e got = takes-none h e
   takes paths-lead h (Some c) e got = takes-some paths-lead h c e got
 
   -- a hart that takes is on its way with what it got
-  pub takes-kept : PathsLead → (h : HartState) (begun : List CellWrite) (rd next : ℕ) (got : Option ContextState)
+  pub takes-kept : PathsLead → (h : HartState) (early_writes : List CellWrite) (rd next : ℕ) (got : Option ContextState)
       → IsEmptyHanded tasks number (middle_at k + 4 * take_index) h
-      → hart_step k.code.words h ≡ Wants Take begun rd next → IsGot tasks got
-      → IsKept tasks k number (entries_held number got) (answer_take begun rd next got h)
-  takes-kept paths-lead h begun rd next got e wants ready =
+      → hart_step k.code.words h ≡ Wants Take early_writes rd next → IsGot tasks got
+      → IsKept tasks k number (entries_held number got) (answer_take early_writes rd next got h)
+  takes-kept paths-lead h early_writes rd next got e wants ready =
       let known = wants-take k kernel.linked tasks number h e in
-      let same_begun : take_begun ≡ begun = cc (known, wants) in
+      let same_early_writes : take_early_writes ≡ early_writes = cc (known, wants) in
       let same_rd : 5 ≡ rd = cc (known, wants) in
       let same_next : middle_at k + 4 * (take_index + 1) ≡ next = cc (known, wants) in
       let P : List CellWrite → Type 0 = λ ws. IsKept tasks k number (entries_held number got) (answer_take ws rd next got h) in
-      let Q : ℕ → Type 0 = λ r. IsKept tasks k number (entries_held number got) (answer_take take_begun r next got h) in
-      let R : ℕ → Type 0 = λ n. IsKept tasks k number (entries_held number got) (answer_take take_begun 5 n got h) in
-      subst P same_begun (subst Q same_rd (subst R same_next (takes paths-lead h got e ready)))
+      let Q : ℕ → Type 0 = λ r. IsKept tasks k number (entries_held number got) (answer_take take_early_writes r next got h) in
+      let R : ℕ → Type 0 = λ n. IsKept tasks k number (entries_held number got) (answer_take take_early_writes 5 n got h) in
+      subst P same_early_writes (subst Q same_rd (subst R same_next (takes paths-lead h got e ready)))

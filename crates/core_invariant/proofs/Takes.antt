@@ -24,14 +24,14 @@ use Rattle.core_invariant.proofs.PublicWrites.{ArePublic, after-public, moved}
 use Rattle.core_invariant.proofs.Gives.{next-after}
 
 -- what a take has written before its answer, and all that it writes
-abbrev pub take_begun : List CellWrite
-take_begun = record { at = places.PortA; cell = public 0 } ∷ record { at = places.Res; cell = public 0x700 } ∷ []
+abbrev pub take_early_writes : List CellWrite
+take_early_writes = record { at = places.PortA; cell = public 0 } ∷ record { at = places.Res; cell = public 0x700 } ∷ []
 
 abbrev pub take_writes : Cell → List CellWrite
-take_writes cell = take_begun ++ loaded_writes 5 cell
+take_writes cell = take_early_writes ++ loaded_writes 5 cell
 
 -- a load from the port of takes where nothing is held
-take-step : (h : HartState) → h.held ≡ None → machine_instr_step h (Load loads.W 5 0 (pos 0x700)) ≡ Wants Take take_begun 5 (low_word (h.pc + 4))
+take-step : (h : HartState) → h.held ≡ None → machine_instr_step h (Load loads.W 5 0 (pos 0x700)) ≡ Wants Take take_early_writes 5 (low_word (h.pc + 4))
 take-step h held =
     let reach : reach_of h (Load loads.W 5 0 (pos 0x700)) ≡ NeedsQueue Take None =
     ap (λ (o : Option ContextState). load_reach (record h { held = o }) loads.W (target_of o 0x700)) held in
@@ -56,18 +56,18 @@ x5-ticked false h cell x5 = x5
 
 module _ (k : KernelParts) (linked : IsLinked k) (tasks : List Task) (number : ℕ) where
   pub wants-take : (h : HartState) → IsEmptyHanded tasks number (middle_at k + 4 * take_index) h
-      → hart_step k.code.words h ≡ Wants Take take_begun 5 (middle_at k + 4 * (take_index + 1))
+      → hart_step k.code.words h ≡ Wants Take take_early_writes 5 (middle_at k + 4 * (take_index + 1))
   wants-take h e =
       machine-step-at k.code.words h (middle_at k + 4 * take_index) (Load loads.W 5 0 (pos 0x700)) e.hart.mode e.hart.pc
       (linked.middle.each take_index (Load loads.W 5 0 (pos 0x700)) refl)
       ∙ take-step h e.held
-      ∙ ap (λ (n : ℕ). Wants Take take_begun 5 (low_word (n + 4))) e.hart.pc
-      ∙ ap (λ (n : ℕ). Wants Take take_begun 5 n) (next-after k take_index linked.save_limit (omega arith))
+      ∙ ap (λ (n : ℕ). Wants Take take_early_writes 5 (low_word (n + 4))) e.hart.pc
+      ∙ ap (λ (n : ℕ). Wants Take take_early_writes 5 n) (next-after k take_index linked.save_limit (omega arith))
 
   -- the latches of a hart that has its answer, whatever it got, are public; and its entries are explained
   pub after-take : (h : HartState) (got : Option ContextState) → IsEmptyHanded tasks number (middle_at k + 4 * take_index) h
-      → HasPublicLatches tasks number (middle_at k + 4 * (take_index + 1)) (answer_take take_begun 5 (middle_at k + 4 * (take_index + 1)) got h).hart
-      × All (IsExplained tasks) (answer_take take_begun 5 (middle_at k + 4 * (take_index + 1)) got h).probes
+      → HasPublicLatches tasks number (middle_at k + 4 * (take_index + 1)) (answer_take take_early_writes 5 (middle_at k + 4 * (take_index + 1)) got h).hart
+      × All (IsExplained tasks) (answer_take take_early_writes 5 (middle_at k + 4 * (take_index + 1)) got h).probes
   after-take h got e =
       let at = middle_at k + 4 * take_index in
       let done = after-public tasks number at (take_writes (take_cell got)) h (taken-public got) e.hart in

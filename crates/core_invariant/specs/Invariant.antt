@@ -3,6 +3,7 @@
 use Rattle.std.specs.Prelude.{◌≡◌, ℕ, ◌<◌, ◌≤◌, List, length, All, filter, slice_get, nat_lt, Option, Some, None, ◌==◌, if◌then◌else◌}
 use Rattle.isa_model.specs.declared.task.Task.{Task}
 use Rattle.isa_model.specs.TaskPlaces.{IsValidTask}
+use Rattle.isa_model.specs.Limits.{max_fuel}
 use Rattle.hart_model.specs.Context.{BodyState, ContextState, task_of}
 use Rattle.hart_model.specs.HartState.{HartState}
 use Rattle.core_model.specs.declared.loaded.Loaded.{Loaded}
@@ -36,4 +37,4 @@ pub record IsCoreKept (k : KernelParts) (loaded : Loaded) (c : CoreState) : Type
 -- The count of what a hart holds is no higher than a task's fuel may be.
 abbrev pub HeldCountFits : Option ContextState → Type 0
 HeldCountFits None = Unit {0}
-HeldCountFits (Some c) = c.body.count ≤ 100000
+HeldCountFits (Some c) = c.body.count ≤ max_fuel

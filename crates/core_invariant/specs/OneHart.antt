@@ -27,17 +27,17 @@ abbrev pub IsGot : List Task → Option ContextState → Type 0
 IsGot tasks None = Unit {0}
 IsGot tasks (Some c) = IsReadyContext tasks c
 
-pub record GivesReady (tasks : List Task) (k : KernelParts) (number : ℕ) (h : HartState) (begun : List CellWrite) (next : ℕ) : Type 0 where
+pub record GivesReady (tasks : List Task) (k : KernelParts) (number : ℕ) (h : HartState) (early_writes : List CellWrite) (next : ℕ) : Type 0 where
   pub context : ContextState
   pub held : h.held ≡ Some context
   pub given : IsReadyContext tasks context
-  pub after : IsKept tasks k number [] (answer_give begun next h)
+  pub after : IsKept tasks k number [] (answer_give early_writes next h)
 
-pub record GivesDone (tasks : List Task) (k : KernelParts) (number : ℕ) (h : HartState) (begun : List CellWrite) (next : ℕ) : Type 0 where
+pub record GivesDone (tasks : List Task) (k : KernelParts) (number : ℕ) (h : HartState) (early_writes : List CellWrite) (next : ℕ) : Type 0 where
   pub context : ContextState
   pub held : h.held ≡ Some context
   pub given : IsDoneContext tasks context
-  pub after : IsKept tasks k number [] (answer_give begun next h)
+  pub after : IsKept tasks k number [] (answer_give early_writes next h)
 
 -- Each hart: at boot it is on its way; ticks and steps keep it so; it takes only where it holds nothing, and gives what may be given;
 -- and it is never wedged.
@@ -47,14 +47,14 @@ pub record EachHart (tasks : List Task) (k : KernelParts) : Type 0 where
   pub ticks : (number : ℕ) (h : HartState) → IsOnItsWay tasks k number h → IsOnItsWay tasks k number (tick_of h)
   pub steps : (number : ℕ) (h g : HartState) (probes : List Probe) (did : Did) → IsOnItsWay tasks k number h → hart_step k.code.words h ≡ Steps g probes did
       → IsKept tasks k number (entries_held number h.held) (record { hart = g; probes = probes })
-  pub holds_none : (number : ℕ) (h : HartState) (begun : List CellWrite) (rd next : ℕ) → IsOnItsWay tasks k number h
-      → hart_step k.code.words h ≡ Wants Take begun rd next
+  pub holds_none : (number : ℕ) (h : HartState) (early_writes : List CellWrite) (rd next : ℕ) → IsOnItsWay tasks k number h
+      → hart_step k.code.words h ≡ Wants Take early_writes rd next
       → h.held ≡ None
-  pub takes : (number : ℕ) (h : HartState) (begun : List CellWrite) (rd next : ℕ) (got : Option ContextState) → IsOnItsWay tasks k number h
-      → hart_step k.code.words h ≡ Wants Take begun rd next → IsGot tasks got
-      → IsKept tasks k number (entries_held number got) (answer_take begun rd next got h)
-  pub gives_ready : (number : ℕ) (h : HartState) (begun : List CellWrite) (rd next : ℕ) → IsOnItsWay tasks k number h
-      → hart_step k.code.words h ≡ Wants GiveReady begun rd next → GivesReady tasks k number h begun next
-  pub gives_done : (number : ℕ) (h : HartState) (begun : List CellWrite) (rd next : ℕ) → IsOnItsWay tasks k number h
-      → hart_step k.code.words h ≡ Wants GiveDone begun rd next → GivesDone tasks k number h begun next
+  pub takes : (number : ℕ) (h : HartState) (early_writes : List CellWrite) (rd next : ℕ) (got : Option ContextState) → IsOnItsWay tasks k number h
+      → hart_step k.code.words h ≡ Wants Take early_writes rd next → IsGot tasks got
+      → IsKept tasks k number (entries_held number got) (answer_take early_writes rd next got h)
+  pub gives_ready : (number : ℕ) (h : HartState) (early_writes : List CellWrite) (rd next : ℕ) → IsOnItsWay tasks k number h
+      → hart_step k.code.words h ≡ Wants GiveReady early_writes rd next → GivesReady tasks k number h early_writes next
+  pub gives_done : (number : ℕ) (h : HartState) (early_writes : List CellWrite) (rd next : ℕ) → IsOnItsWay tasks k number h
+      → hart_step k.code.words h ≡ Wants GiveDone early_writes rd next → GivesDone tasks k number h early_writes next
   pub never_wedged : (number : ℕ) (h : HartState) → IsOnItsWay tasks k number h → hart_step k.code.words h ≡ Wedged → ⊥

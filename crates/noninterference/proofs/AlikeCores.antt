@@ -18,7 +18,8 @@ use Rattle.core_model.specs.declared.event.Event.TheVariants.{Go, Tick}
 use Rattle.core_model.specs.declared.loaded.Loaded.{Loaded}
 use Rattle.core_model.specs.Board.{BoardState, take_from, give_ready_of, give_done_of, boot_board, Front, all_ready, front_of}
 use Rattle.core_model.proofs.ReadyLists.{front-is}
-use Rattle.core_model.specs.Core.{CoreState, with_hart, after_take, after_give_done, after_call, after_step, after_go, after_tick, after_event, core_from, boot_core, bodies_from, harts_from, core_after, log_of}
+use Rattle.core_model.specs.BoardStep.{BoardStep, stays, board_step_by_take, board_step_by_give_done, board_step_by_call, board_step}
+use Rattle.core_model.specs.Core.{CoreState, with_hart, with_board_step, after_step, after_go, after_tick, after_event, core_from, boot_core, bodies_from, harts_from, core_after, log_of}
 use Rattle.core_model.specs.Loaded.{IsLoaded}
 use Rattle.core_model.specs.LowEquivalence.{AreAlike, AgreesPublicly, AgreePublicly}
 use Rattle.core_invariant.specs.KernelStates.{KernelParts}
@@ -77,92 +78,107 @@ module _ (Together : ℕ → HartState → HartState → Type 0) (k : KernelPart
         on : AreOnWayTogether Together loaded.tasks other.tasks k hart h g
         on = record { way = kept.harts hart h is; other = kept_too.harts hart g is_too; both = together.harts hart h g is is_too }
 
-        take-together : (begun started : List CellWrite) (rd next : ℕ) (front other_front : Option Front) → hart_step k.code.words h ≡ Wants Take begun rd next
-            → hart_step k.code.words g ≡ Wants Take started rd next → front_of c.board.ready.first c.board.ready.second ≡ front
+        -- the cores are together after what the steps of the hart come to
+        abbrev TogetherAfter : BoardStep → BoardStep → Type 0
+        TogetherAfter r q = AreCoresTogether Together (with_board_step c hart r).core (with_board_step d hart q).core
+
+        -- where nothing is done the harts go back to where they stand
+        stay-together : TogetherAfter (stays c.board h) (stays d.board g)
+        stay-together =
+            with-hart-together (record { hart = h; probes = [] }) (record { hart = g; probes = [] }) c.board d.board
+            (record { harts = on.both; probes = tt }) together.board
+
+        take-together : (early_writes other_early_writes : List CellWrite) (rd next : ℕ) (front other_front : Option Front) → hart_step k.code.words h ≡ Wants Take early_writes rd next
+            → hart_step k.code.words g ≡ Wants Take other_early_writes rd next → front_of c.board.ready.first c.board.ready.second ≡ front
             → front_of d.board.ready.first d.board.ready.second ≡ other_front → AreNextAlike front other_front
-            → AreCoresTogether Together (after_take c hart h begun rd next (take_from c.board hart front)).core
-            (after_take d hart g started rd next (take_from d.board hart other_front)).core
-        take-together begun started rd next None None wants wants_too e f pairs =
-            with-hart-together (answer_take begun rd next None h) (answer_take started rd next None g)
+            → TogetherAfter (board_step_by_take h early_writes rd next (take_from c.board hart front))
+            (board_step_by_take g other_early_writes rd next (take_from d.board hart other_front))
+        take-together early_writes other_early_writes rd next None None wants wants_too e f pairs =
+            with-hart-together (answer_take early_writes rd next None h) (answer_take other_early_writes rd next None g)
             (take_from c.board hart None).board (take_from d.board hart None).board
-            (both.takes hart h g begun started rd next None None on wants wants_too tt tt tt) (boards-empty hart c.board d.board together.board)
-        take-together begun started rd next None (Some y) wants wants_too e f pairs = absurd pairs
-        take-together begun started rd next (Some x) None wants wants_too e f pairs = absurd pairs
-        take-together begun started rd next (Some x) (Some y) wants wants_too e f pairs =
+            (both.takes hart h g early_writes other_early_writes rd next None None on wants wants_too tt tt tt) (boards-empty hart c.board d.board together.board)
+        take-together early_writes other_early_writes rd next None (Some y) wants wants_too e f pairs = absurd pairs
+        take-together early_writes other_early_writes rd next (Some x) None wants wants_too e f pairs = absurd pairs
+        take-together early_writes other_early_writes rd next (Some x) (Some y) wants wants_too e f pairs =
             let in_front = front-is c.board.ready.first c.board.ready.second x e in
             let in_front_too = front-is d.board.ready.first d.board.ready.second y f in
             let can = All-head (IsReadyContext loaded.tasks) x.context (all_ready x.left) (subst (All (IsReadyContext loaded.tasks)) in_front kept.ready) in
             let can_too = All-head (IsReadyContext other.tasks) y.context (all_ready y.left) (subst (All (IsReadyContext other.tasks)) in_front_too kept_too.ready) in
-            with-hart-together (answer_take begun rd next (Some x.context) h) (answer_take started rd next (Some y.context) g)
+            with-hart-together (answer_take early_writes rd next (Some x.context) h) (answer_take other_early_writes rd next (Some y.context) g)
             (take_from c.board hart (Some x)).board (take_from d.board hart (Some y)).board
-            (both.takes hart h g begun started rd next (Some x.context) (Some y.context) on wants wants_too can can_too pairs.context)
+            (both.takes hart h g early_writes other_early_writes rd next (Some x.context) (Some y.context) on wants wants_too can can_too pairs.context)
             (boards-taken hart c.board d.board together.board x y pairs)
 
-        ready-together : (begun started : List CellWrite) (rd next : ℕ) (held held_too : Option ContextState)
-            → hart_step k.code.words h ≡ Wants GiveReady begun rd next → hart_step k.code.words g ≡ Wants GiveReady started rd next
+        ready-together : (early_writes other_early_writes : List CellWrite) (rd next : ℕ) (held held_too : Option ContextState)
+            → hart_step k.code.words h ≡ Wants GiveReady early_writes rd next → hart_step k.code.words g ≡ Wants GiveReady other_early_writes rd next
             → AreHeldAlike held held_too
-            → AreCoresTogether Together (after_call c hart h GiveReady begun rd next held).core (after_call d hart g GiveReady started rd next held_too).core
-        ready-together begun started rd next None None wants wants_too held = together
-        ready-together begun started rd next None (Some y) wants wants_too held = absurd held
-        ready-together begun started rd next (Some x) None wants wants_too held = absurd held
-        ready-together begun started rd next (Some x) (Some y) wants wants_too held =
-            with-hart-together (answer_give begun next h) (answer_give started next g) (give_ready_of c.board hart x) (give_ready_of d.board hart y)
-            (both.gives_ready hart h g begun started rd next on wants wants_too) (boards-ready hart c.board d.board together.board x y held)
+            → TogetherAfter (board_step_by_call c.board hart h GiveReady early_writes rd next held)
+            (board_step_by_call d.board hart g GiveReady other_early_writes rd next held_too)
+        ready-together early_writes other_early_writes rd next None None wants wants_too held = stay-together
+        ready-together early_writes other_early_writes rd next None (Some y) wants wants_too held = absurd held
+        ready-together early_writes other_early_writes rd next (Some x) None wants wants_too held = absurd held
+        ready-together early_writes other_early_writes rd next (Some x) (Some y) wants wants_too held =
+            with-hart-together (answer_give early_writes next h) (answer_give other_early_writes next g) (give_ready_of c.board hart x) (give_ready_of d.board hart y)
+            (both.gives_ready hart h g early_writes other_early_writes rd next on wants wants_too) (boards-ready hart c.board d.board together.board x y held)
 
-        ended-together : (begun started : List CellWrite) (rd next : ℕ) (x y : ContextState) (end end_too : Option End)
-            → hart_step k.code.words h ≡ Wants GiveDone begun rd next → hart_step k.code.words g ≡ Wants GiveDone started rd next
+        ended-together : (early_writes other_early_writes : List CellWrite) (rd next : ℕ) (x y : ContextState) (end end_too : Option End)
+            → hart_step k.code.words h ≡ Wants GiveDone early_writes rd next → hart_step k.code.words g ≡ Wants GiveDone other_early_writes rd next
             → AreContextsAlike x y → option_map kind_of end ≡ option_map kind_of end_too
-            → AreCoresTogether Together (after_give_done c hart h begun next x end).core (after_give_done d hart g started next y end_too).core
-        ended-together begun started rd next x y None None wants wants_too held kinds = together
-        ended-together begun started rd next x y None (Some f) wants wants_too held kinds = absurd (cc kinds)
-        ended-together begun started rd next x y (Some e) None wants wants_too held kinds = absurd (cc kinds)
-        ended-together begun started rd next x y (Some e) (Some f) wants wants_too held kinds =
-            with-hart-together (answer_give begun next h) (answer_give started next g) (give_done_of c.board hart x e) (give_done_of d.board hart y f)
-            (both.gives_done hart h g begun started rd next on wants wants_too) (boards-done hart c.board d.board x y e f together.board held (cc kinds))
+            → TogetherAfter (board_step_by_give_done c.board hart h early_writes next x end)
+            (board_step_by_give_done d.board hart g other_early_writes next y end_too)
+        ended-together early_writes other_early_writes rd next x y None None wants wants_too held kinds = stay-together
+        ended-together early_writes other_early_writes rd next x y None (Some f) wants wants_too held kinds = absurd (cc kinds)
+        ended-together early_writes other_early_writes rd next x y (Some e) None wants wants_too held kinds = absurd (cc kinds)
+        ended-together early_writes other_early_writes rd next x y (Some e) (Some f) wants wants_too held kinds =
+            with-hart-together (answer_give early_writes next h) (answer_give other_early_writes next g) (give_done_of c.board hart x e) (give_done_of d.board hart y f)
+            (both.gives_done hart h g early_writes other_early_writes rd next on wants wants_too) (boards-done hart c.board d.board x y e f together.board held (cc kinds))
 
-        done-together : (begun started : List CellWrite) (rd next : ℕ) (held held_too : Option ContextState)
-            → hart_step k.code.words h ≡ Wants GiveDone begun rd next → hart_step k.code.words g ≡ Wants GiveDone started rd next
+        done-together : (early_writes other_early_writes : List CellWrite) (rd next : ℕ) (held held_too : Option ContextState)
+            → hart_step k.code.words h ≡ Wants GiveDone early_writes rd next → hart_step k.code.words g ≡ Wants GiveDone other_early_writes rd next
             → AreHeldAlike held held_too
-            → AreCoresTogether Together (after_call c hart h GiveDone begun rd next held).core (after_call d hart g GiveDone started rd next held_too).core
-        done-together begun started rd next None None wants wants_too held = together
-        done-together begun started rd next None (Some y) wants wants_too held = absurd held
-        done-together begun started rd next (Some x) None wants wants_too held = absurd held
-        done-together begun started rd next (Some x) (Some y) wants wants_too held =
-            ended-together begun started rd next x y x.end y.end wants wants_too held held.end
+            → TogetherAfter (board_step_by_call c.board hart h GiveDone early_writes rd next held)
+            (board_step_by_call d.board hart g GiveDone other_early_writes rd next held_too)
+        done-together early_writes other_early_writes rd next None None wants wants_too held = stay-together
+        done-together early_writes other_early_writes rd next None (Some y) wants wants_too held = absurd held
+        done-together early_writes other_early_writes rd next (Some x) None wants wants_too held = absurd held
+        done-together early_writes other_early_writes rd next (Some x) (Some y) wants wants_too held =
+            ended-together early_writes other_early_writes rd next x y x.end y.end wants wants_too held held.end
 
-        call-together : (call : QueueCall) (begun started : List CellWrite) (rd next : ℕ) → hart_step k.code.words h ≡ Wants call begun rd next
-            → hart_step k.code.words g ≡ Wants call started rd next
-            → AreCoresTogether Together (after_call c hart h call begun rd next h.held).core (after_call d hart g call started rd next g.held).core
-        call-together Take begun started rd next wants wants_too =
-            take-together begun started rd next (front_of c.board.ready.first c.board.ready.second) (front_of d.board.ready.first d.board.ready.second) wants wants_too refl refl
+        call-together : (call : QueueCall) (early_writes other_early_writes : List CellWrite) (rd next : ℕ) → hart_step k.code.words h ≡ Wants call early_writes rd next
+            → hart_step k.code.words g ≡ Wants call other_early_writes rd next
+            → TogetherAfter (board_step_by_call c.board hart h call early_writes rd next h.held)
+            (board_step_by_call d.board hart g call other_early_writes rd next g.held)
+        call-together Take early_writes other_early_writes rd next wants wants_too =
+            take-together early_writes other_early_writes rd next (front_of c.board.ready.first c.board.ready.second) (front_of d.board.ready.first d.board.ready.second) wants wants_too refl refl
             (fronts-alike c.board.ready.first c.board.ready.second d.board.ready.first d.board.ready.second together.board.first together.board.second)
-        call-together GiveReady begun started rd next wants wants_too =
-            ready-together begun started rd next h.held g.held wants wants_too (both.holds_alike hart h g GiveReady begun started rd next on wants wants_too)
-        call-together GiveDone begun started rd next wants wants_too =
-            done-together begun started rd next h.held g.held wants wants_too (both.holds_alike hart h g GiveDone begun started rd next on wants wants_too)
+        call-together GiveReady early_writes other_early_writes rd next wants wants_too =
+            ready-together early_writes other_early_writes rd next h.held g.held wants wants_too (both.holds_alike hart h g GiveReady early_writes other_early_writes rd next on wants wants_too)
+        call-together GiveDone early_writes other_early_writes rd next wants wants_too =
+            done-together early_writes other_early_writes rd next h.held g.held wants wants_too (both.holds_alike hart h g GiveDone early_writes other_early_writes rd next on wants wants_too)
 
-        wants-together : (call call_too : QueueCall) (begun started : List CellWrite) (rd rd_too next next_too : ℕ) → call ≡ call_too → rd ≡ rd_too → next ≡ next_too
-            → hart_step k.code.words h ≡ Wants call begun rd next → hart_step k.code.words g ≡ Wants call_too started rd_too next_too
-            → AreCoresTogether Together (after_call c hart h call begun rd next h.held).core (after_call d hart g call_too started rd_too next_too g.held).core
-        wants-together call call_too begun started rd rd_too next next_too calls rds nexts wants wants_too =
-            let e : Wants call_too started rd_too next_too ≡ Wants call started rd next = rw (calls, rds, nexts) refl in
-            let P : StepResult → Type 0 = λ r. AreCoresTogether Together (after_call c hart h call begun rd next h.held).core (after_step d hart g r).core in
-            subst P (sym e) (call-together call begun started rd next wants (wants_too ∙ e))
+        wants-together : (call call_too : QueueCall) (early_writes other_early_writes : List CellWrite) (rd rd_too next next_too : ℕ) → call ≡ call_too → rd ≡ rd_too → next ≡ next_too
+            → hart_step k.code.words h ≡ Wants call early_writes rd next → hart_step k.code.words g ≡ Wants call_too other_early_writes rd_too next_too
+            → TogetherAfter (board_step_by_call c.board hart h call early_writes rd next h.held)
+            (board_step_by_call d.board hart g call_too other_early_writes rd_too next_too g.held)
+        wants-together call call_too early_writes other_early_writes rd rd_too next next_too calls rds nexts wants wants_too =
+            let e : Wants call_too other_early_writes rd_too next_too ≡ Wants call other_early_writes rd next = rw (calls, rds, nexts) refl in
+            let P : StepResult → Type 0 = λ r. TogetherAfter (board_step_by_call c.board hart h call early_writes rd next h.held) (board_step d.board hart g r) in
+            subst P (sym e) (call-together call early_writes other_early_writes rd next wants (wants_too ∙ e))
 
         step-together : (r q : StepResult) → hart_step k.code.words h ≡ r → hart_step k.code.words g ≡ q → AreStepsTogether (Together hart) r q
             → AreCoresTogether Together (after_step c hart h r).core (after_step d hart g q).core
         step-together (Steps after probes did) (Steps to entries done) is there same =
             with-hart-together (record { hart = after; probes = probes }) (record { hart = to; probes = entries }) c.board d.board
             (record { harts = same.1; probes = same.0 }) together.board
-        step-together (Steps after probes did) (Wants call begun rd next) is there same = absurd same
+        step-together (Steps after probes did) (Wants call early_writes rd next) is there same = absurd same
         step-together (Steps after probes did) Wedged is there same = absurd same
-        step-together (Wants call begun rd next) (Steps to entries done) is there same = absurd same
-        step-together (Wants call begun rd next) (Wants call_too started rd_too next_too) is there same =
-            wants-together call call_too begun started rd rd_too next next_too same.0 same.1 same.2 is there
-        step-together (Wants call begun rd next) Wedged is there same = absurd same
+        step-together (Wants call early_writes rd next) (Steps to entries done) is there same = absurd same
+        step-together (Wants call early_writes rd next) (Wants call_too other_early_writes rd_too next_too) is there same =
+            wants-together call call_too early_writes other_early_writes rd rd_too next next_too same.0 same.1 same.2 is there
+        step-together (Wants call early_writes rd next) Wedged is there same = absurd same
         step-together Wedged (Steps to entries done) is there same = absurd same
-        step-together Wedged (Wants call_too started rd_too next_too) is there same = absurd same
-        step-together Wedged Wedged is there same = together
+        step-together Wedged (Wants call_too other_early_writes rd_too next_too) is there same = absurd same
+        step-together Wedged Wedged is there same = stay-together
 
       go-together : (o p : Option HartState) → slice_get c.harts hart ≡ o → slice_get d.harts hart ≡ p
           → AreCoresTogether Together (after_go k.code.words c hart o).core (after_go k.code.words d hart p).core

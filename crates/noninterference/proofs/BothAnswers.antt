@@ -65,12 +65,12 @@ same-loaded (Some c) None a = absurd a
 same-loaded (Some c) (Some d) a = ap (λ n. public (slot_address n)) a.slot
 
 -- and so does a take of what is alike
-pub taken-alike : (begun : List CellWrite) (rd next : ℕ) (got other : Option ContextState) (h g : HartState) → AreHeldAlike got other → AreHartsAlike h g
-    → AreLeftAlike (answer_take begun rd next got h) (answer_take begun rd next other g)
-taken-alike begun rd next got other h g held alike =
-    let ws = begun ++ loaded_writes rd (take_cell got) in
-    let vs = begun ++ loaded_writes rd (take_cell other) in
-    let same : ws ≡ vs = ap (λ c. begun ++ loaded_writes rd c) (same-loaded got other held) in
+pub taken-alike : (early_writes : List CellWrite) (rd next : ℕ) (got other : Option ContextState) (h g : HartState) → AreHeldAlike got other → AreHartsAlike h g
+    → AreLeftAlike (answer_take early_writes rd next got h) (answer_take early_writes rd next other g)
+taken-alike early_writes rd next got other h g held alike =
+    let ws = early_writes ++ loaded_writes rd (take_cell got) in
+    let vs = early_writes ++ loaded_writes rd (take_cell other) in
+    let same : ws ≡ vs = ap (λ c. early_writes ++ loaded_writes rd c) (same-loaded got other held) in
     let P : List CellWrite → Type 0 = λ us. AreLeftAlike (after_writes ws h) (after_writes us g) in
     let left : AreLeftAlike (after_writes ws h) (after_writes vs g) = subst P same (writes-leave-alike ws ws h g (same-writes ws) alike) in
     record {

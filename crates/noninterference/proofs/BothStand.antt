@@ -14,7 +14,7 @@ use Rattle.core_invariant.specs.CutPoints.{IsEmptyHanded, IsGivingReady, IsGivin
 use Rattle.core_invariant.specs.OneHart.{IsGot}
 use Rattle.core_invariant.proofs.AtStart.{start-tick, boot-empty}
 use Rattle.core_invariant.proofs.Gives.{give_writes, wants-give-ready, wants-give-done, given-ready, given-done}
-use Rattle.core_invariant.proofs.Takes.{take_begun, wants-take, after-take, taken-x5}
+use Rattle.core_invariant.proofs.Takes.{take_early_writes, wants-take, after-take, taken-x5}
 use Rattle.core_invariant.proofs.Proved.{kernel-harts}
 use Rattle.core_invariant.proofs.AtActions.{takes-at, gives-ready-at, gives-done-at}
 use Rattle.core_model.specs.AlikeHarts.{AreCellsAlike, AreHeldAlike, AreHartsAlike}
@@ -100,10 +100,10 @@ module _ (k : KernelParts) (kernel : IsKernel k) (of_both : IsAlikeKernel k) (ta
     -- after a take
     take-left : (got other : Option ContextState) → IsEmptyHanded tasks number (middle_at k + 4 * take_index) h
         → IsEmptyHanded others number (middle_at k + 4 * take_index) g → IsGot tasks got → IsGot others other → AreHeldAlike got other → AreHartsAlike h g
-        → AreLeftTogether (LedBoth There k) number (answer_take take_begun 5 (middle_at k + 4 * (take_index + 1)) got h)
-        (answer_take take_begun 5 (middle_at k + 4 * (take_index + 1)) other g)
+        → AreLeftTogether (LedBoth There k) number (answer_take take_early_writes 5 (middle_at k + 4 * (take_index + 1)) got h)
+        (answer_take take_early_writes 5 (middle_at k + 4 * (take_index + 1)) other g)
     take-left None None e f can can_too same alike =
-        let left = taken-alike take_begun 5 (middle_at k + 4 * (take_index + 1)) None None h g tt alike in
+        let left = taken-alike take_early_writes 5 (middle_at k + 4 * (take_index + 1)) None None h g tt alike in
         record {
           harts = both-to-idle k kernel tasks others number _ _ (record { hart = (after-take k kernel.linked tasks number h None e).0; held = refl })
               (record { hart = (after-take k kernel.linked others number g None f).0; held = refl })
@@ -114,58 +114,58 @@ module _ (k : KernelParts) (kernel : IsKernel k) (of_both : IsAlikeKernel k) (ta
     take-left (Some c) None e f can can_too same alike = absurd same
     take-left (Some c) (Some d) e f can can_too same alike = record {
       harts = both-taken k kernel of_both tasks others number c d can can_too same h g e f alike;
-      probes = (taken-alike take_begun 5 (middle_at k + 4 * (take_index + 1)) (Some c) (Some d) h g same alike).probes;
+      probes = (taken-alike take_early_writes 5 (middle_at k + 4 * (take_index + 1)) (Some c) (Some d) h g same alike).probes;
     }
 
-  takes : (number : ℕ) (h g : HartState) (begun started : List CellWrite) (rd next : ℕ) (got other : Option ContextState) → There number h g
-      → hart_step k.code.words h ≡ Wants Take begun rd next → hart_step k.code.words g ≡ Wants Take started rd next
+  takes : (number : ℕ) (h g : HartState) (early_writes other_early_writes : List CellWrite) (rd next : ℕ) (got other : Option ContextState) → There number h g
+      → hart_step k.code.words h ≡ Wants Take early_writes rd next → hart_step k.code.words g ≡ Wants Take other_early_writes rd next
       → IsGot tasks got → IsGot others other → AreHeldAlike got other
-      → AreLeftTogether (LedBoth There k) number (answer_take begun rd next got h) (answer_take started rd next other g)
-  takes number h g begun started rd next got other t e f can can_too same =
-      let one = takes-at k kernel tasks number h begun rd next t.start e in
-      let two = takes-at k kernel others number g started rd next t.other f in
+      → AreLeftTogether (LedBoth There k) number (answer_take early_writes rd next got h) (answer_take other_early_writes rd next other g)
+  takes number h g early_writes other_early_writes rd next got other t e f can can_too same =
+      let one = takes-at k kernel tasks number h early_writes rd next t.start e in
+      let two = takes-at k kernel others number g other_early_writes rd next t.other f in
       let known = wants-take k kernel.linked tasks number h one in
       let known_too = wants-take k kernel.linked others number g two in
-      let same_begun : take_begun ≡ begun = cc (known, e) in
-      let same_started : take_begun ≡ started = cc (known_too, f) in
+      let same_early_writes : take_early_writes ≡ early_writes = cc (known, e) in
+      let same_started : take_early_writes ≡ other_early_writes = cc (known_too, f) in
       let same_rd : 5 ≡ rd = cc (known, e) in
       let same_next : middle_at k + 4 * (take_index + 1) ≡ next = cc (known, e) in
       let R : List CellWrite → List CellWrite → ℕ → ℕ → Type 0 = λ ws vs r n.
       AreLeftTogether (LedBoth There k) number (answer_take ws r n got h) (answer_take vs r n other g) in
-      subst (λ ws. R ws started rd next) same_begun (subst (λ vs. R take_begun vs rd next) same_started
-      (subst (λ r. R take_begun take_begun r next) same_rd (subst (λ n. R take_begun take_begun 5 n) same_next
+      subst (λ ws. R ws other_early_writes rd next) same_early_writes (subst (λ vs. R take_early_writes vs rd next) same_started
+      (subst (λ r. R take_early_writes take_early_writes r next) same_rd (subst (λ n. R take_early_writes take_early_writes 5 n) same_next
       (take-left number h g got other one two can can_too same t.alike))))
 
-  gives-ready : (number : ℕ) (h g : HartState) (begun started : List CellWrite) (rd next : ℕ) → There number h g
-      → hart_step k.code.words h ≡ Wants GiveReady begun rd next → hart_step k.code.words g ≡ Wants GiveReady started rd next
-      → AreLeftTogether (LedBoth There k) number (answer_give begun next h) (answer_give started next g)
-  gives-ready number h g begun started rd next t e f =
-      let one = gives-ready-at k kernel tasks number h begun rd next t.start e in
-      let two = gives-ready-at k kernel others number g started rd next t.other f in
+  gives-ready : (number : ℕ) (h g : HartState) (early_writes other_early_writes : List CellWrite) (rd next : ℕ) → There number h g
+      → hart_step k.code.words h ≡ Wants GiveReady early_writes rd next → hart_step k.code.words g ≡ Wants GiveReady other_early_writes rd next
+      → AreLeftTogether (LedBoth There k) number (answer_give early_writes next h) (answer_give other_early_writes next g)
+  gives-ready number h g early_writes other_early_writes rd next t e f =
+      let one = gives-ready-at k kernel tasks number h early_writes rd next t.start e in
+      let two = gives-ready-at k kernel others number g other_early_writes rd next t.other f in
       let known = wants-give-ready k kernel.linked tasks number h one.0 one.1 in
       let known_too = wants-give-ready k kernel.linked others number g two.0 two.1 in
-      let same_begun : give_writes (public 0) ≡ begun = cc (known, e) in
-      let same_started : give_writes (public 0) ≡ started = cc (known_too, f) in
+      let same_early_writes : give_writes (public 0) ≡ early_writes = cc (known, e) in
+      let same_started : give_writes (public 0) ≡ other_early_writes = cc (known_too, f) in
       let same_next : middle_at k + 4 * take_index ≡ next = cc (known, e) in
       let R : List CellWrite → List CellWrite → ℕ → Type 0 = λ ws vs n.
       AreLeftTogether (LedBoth There k) number (answer_give ws n h) (answer_give vs n g) in
-      subst (λ ws. R ws started next) same_begun (subst (λ vs. R (give_writes (public 0)) vs next) same_started
+      subst (λ ws. R ws other_early_writes next) same_early_writes (subst (λ vs. R (give_writes (public 0)) vs next) same_started
       (subst (λ n. R (give_writes (public 0)) (give_writes (public 0)) n) same_next (ready-left number h g one.0 two.0 one.1 two.1 t.alike)))
 
-  gives-done : (number : ℕ) (h g : HartState) (begun started : List CellWrite) (rd next : ℕ) → There number h g
-      → hart_step k.code.words h ≡ Wants GiveDone begun rd next → hart_step k.code.words g ≡ Wants GiveDone started rd next
-      → AreLeftTogether (LedBoth There k) number (answer_give begun next h) (answer_give started next g)
-  gives-done number h g begun started rd next t e f =
-      let one = gives-done-at k kernel tasks number h begun rd next t.start e in
-      let two = gives-done-at k kernel others number g started rd next t.other f in
+  gives-done : (number : ℕ) (h g : HartState) (early_writes other_early_writes : List CellWrite) (rd next : ℕ) → There number h g
+      → hart_step k.code.words h ≡ Wants GiveDone early_writes rd next → hart_step k.code.words g ≡ Wants GiveDone other_early_writes rd next
+      → AreLeftTogether (LedBoth There k) number (answer_give early_writes next h) (answer_give other_early_writes next g)
+  gives-done number h g early_writes other_early_writes rd next t e f =
+      let one = gives-done-at k kernel tasks number h early_writes rd next t.start e in
+      let two = gives-done-at k kernel others number g other_early_writes rd next t.other f in
       let known = wants-give-done k kernel.linked tasks number h one.0 one.1 in
       let known_too = wants-give-done k kernel.linked others number g two.0 two.1 in
-      let same_begun : give_writes (public 1) ≡ begun = cc (known, e) in
-      let same_started : give_writes (public 1) ≡ started = cc (known_too, f) in
+      let same_early_writes : give_writes (public 1) ≡ early_writes = cc (known, e) in
+      let same_started : give_writes (public 1) ≡ other_early_writes = cc (known_too, f) in
       let same_next : middle_at k + 4 * (give_done_index + 1) ≡ next = cc (known, e) in
       let R : List CellWrite → List CellWrite → ℕ → Type 0 = λ ws vs n.
       AreLeftTogether (LedBoth There k) number (answer_give ws n h) (answer_give vs n g) in
-      subst (λ ws. R ws started next) same_begun (subst (λ vs. R (give_writes (public 1)) vs next) same_started
+      subst (λ ws. R ws other_early_writes next) same_early_writes (subst (λ vs. R (give_writes (public 1)) vs next) same_started
       (subst (λ n. R (give_writes (public 1)) (give_writes (public 1)) n) same_next (done-left number h g one.0 two.0 one.1 two.1 t.alike)))
 
   -- Two harts that start alike do what they have to.

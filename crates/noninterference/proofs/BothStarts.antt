@@ -13,20 +13,20 @@ use Rattle.noninterference.specs.AlikeCores.{AreStepsTogether, BothHarts, LedBot
 use Rattle.noninterference.proofs.BothWays.{both-first, both-tick, go-together-steps}
 
 -- a step that comes to a queue action doesn't go on
-wants-no-more : (There : HartState → HartState → Type 0) (step to : StepResult) (call : QueueCall) (begun : List CellWrite) (rd next : ℕ)
-    → step ≡ Wants call begun rd next → GoOnAlike There step to → ⊥
-wants-no-more There step to call begun rd next e goes =
+wants-no-more : (There : HartState → HartState → Type 0) (step to : StepResult) (call : QueueCall) (early_writes : List CellWrite) (rd next : ℕ)
+    → step ≡ Wants call early_writes rd next → GoOnAlike There step to → ⊥
+wants-no-more There step to call early_writes rd next e goes =
     let P : StepResult → Type 0 = λ x. GoOnAlike There x to in
     subst P e goes
 
 module _ (There : ℕ → HartState → HartState → Type 0) (tasks others : List Task) (k : KernelParts) (start : StartBoth There tasks others k) where
   -- harts that come to a queue action are there
-  at-start : (number : ℕ) (h g : HartState) (call : QueueCall) (begun : List CellWrite) (rd next : ℕ) → LedBoth There k number h g
-      → hart_step k.code.words h ≡ Wants call begun rd next → There number h g
-  at-start number h g call begun rd next way e =
+  at-start : (number : ℕ) (h g : HartState) (call : QueueCall) (early_writes : List CellWrite) (rd next : ℕ) → LedBoth There k number h g
+      → hart_step k.code.words h ≡ Wants call early_writes rd next → There number h g
+  at-start number h g call early_writes rd next way e =
       elim (both-first k.code.words way.0 (There number) h g way.1) [
         | inl there ↦ there
-        | inr goes ↦ absurd (wants-no-more (LedBoth There k number) (hart_step k.code.words h) (hart_step k.code.words g) call begun rd next e (goes.1 false))
+        | inr goes ↦ absurd (wants-no-more (LedBoth There k number) (hart_step k.code.words h) (hart_step k.code.words g) call early_writes rd next e (goes.1 false))
       ]
 
   led-steps : (number : ℕ) (h g : HartState) → LedBoth There k number h g
@@ -42,11 +42,11 @@ module _ (There : ℕ → HartState → HartState → Type 0) (tasks others : Li
     boots = start.boots;
     ticks = λ number h g on. (on.both.0, both-tick k.code.words on.both.0 (There number) h g (start.ticks number) on.both.1);
     steps = λ number h g on. led-steps number h g on.both;
-    holds_alike = λ number h g call begun started rd next on e f. start.holds_alike number h g (at-start number h g call begun rd next on.both e);
-    takes = λ number h g begun started rd next got other on e f can can_too alike.
-        start.takes number h g begun started rd next got other (at-start number h g Take begun rd next on.both e) e f can can_too alike;
-    gives_ready = λ number h g begun started rd next on e f.
-        start.gives_ready number h g begun started rd next (at-start number h g GiveReady begun rd next on.both e) e f;
-    gives_done = λ number h g begun started rd next on e f.
-        start.gives_done number h g begun started rd next (at-start number h g GiveDone begun rd next on.both e) e f;
+    holds_alike = λ number h g call early_writes other_early_writes rd next on e f. start.holds_alike number h g (at-start number h g call early_writes rd next on.both e);
+    takes = λ number h g early_writes other_early_writes rd next got other on e f can can_too alike.
+        start.takes number h g early_writes other_early_writes rd next got other (at-start number h g Take early_writes rd next on.both e) e f can can_too alike;
+    gives_ready = λ number h g early_writes other_early_writes rd next on e f.
+        start.gives_ready number h g early_writes other_early_writes rd next (at-start number h g GiveReady early_writes rd next on.both e) e f;
+    gives_done = λ number h g early_writes other_early_writes rd next on e f.
+        start.gives_done number h g early_writes other_early_writes rd next (at-start number h g GiveDone early_writes rd next on.both e) e f;
   }

@@ -19,7 +19,7 @@ use Rattle.symbolic_run.proofs.Paths.{paths-lead, machine-step-at}
 use Rattle.core_invariant.specs.KernelStates.{KernelParts, IsKernel, IsAlikeKernel, middle_instrs, middle_at, mret_at, middle_len, take_index}
 use Rattle.core_invariant.specs.CutPoints.{IsEmptyHanded}
 use Rattle.core_invariant.proofs.PartModes.{in-restore}
-use Rattle.core_invariant.proofs.Takes.{take_begun, after-take, taken-x5}
+use Rattle.core_invariant.proofs.Takes.{take_early_writes, after-take, taken-x5}
 use Rattle.core_invariant.proofs.TakenStands.{taken_setting, taken-setting-sound, pc_of, taken-stands, taken_state}
 use Rattle.core_invariant.proofs.TakenPath.{IsRestored, Restoring, restoring, runs-restored, task_csrs, end_state, taken_asks, taken-path}
 use Rattle.core_invariant.proofs.Returns.{returned, restored-ticked, mret-step, user-state}
@@ -135,15 +135,15 @@ module _ (k : KernelParts) (kernel : IsKernel k) (of_both : IsAlikeKernel k) (ta
   -- Both have taken contexts that are alike.
   pub both-taken : (h g : HartState) → IsEmptyHanded tasks number (middle_at k + 4 * take_index) h
       → IsEmptyHanded others number (middle_at k + 4 * take_index) g → AreHartsAlike h g
-      → LedBoth (AreAtStarts tasks others k) k number (answer_take take_begun 5 (middle_at k + 4 * (take_index + 1)) (Some c) h).hart
-      (answer_take take_begun 5 (middle_at k + 4 * (take_index + 1)) (Some d) g).hart
+      → LedBoth (AreAtStarts tasks others k) k number (answer_take take_early_writes 5 (middle_at k + 4 * (take_index + 1)) (Some c) h).hart
+      (answer_take take_early_writes 5 (middle_at k + 4 * (take_index + 1)) (Some d) g).hart
   both-taken h g e f alike =
       let next = middle_at k + 4 * (take_index + 1) in
-      let a = (answer_take take_begun 5 next (Some c) h).hart in
-      let b = (answer_take take_begun 5 next (Some d) g).hart in
+      let a = (answer_take take_early_writes 5 next (Some c) h).hart in
+      let b = (answer_take take_early_writes 5 next (Some d) g).hart in
       let one = after-take k kernel.linked tasks number h (Some c) e in
       let two = after-take k kernel.linked others number g (Some d) f in
-      let left = taken-alike take_begun 5 next (Some c) (Some d) h g same alike in (
+      let left = taken-alike take_early_writes 5 next (Some c) (Some d) h g same alike in (
         12 + k.restore + 1,
         both-from-take a b one.0.bound_registers two.0.bound_registers (record {
           says = taken-stands tasks c r k number a one.0 refl (taken-x5 h (public (slot_address c.slot)) e.hart.registers);

@@ -11,17 +11,17 @@ use Rattle.noninterference.specs.AlikeCores.{AreStepsTogether}
 pub both-go-map : (There Other : HartState → HartState → Type 0) (step to : StepResult) → ((h g : HartState) → There h g → Other h g)
     → GoOnAlike There step to → GoOnAlike Other step to
 both-go-map There Other (Steps h ps did) (Steps g qs done) other goes = (goes.0, other h g goes.1)
-both-go-map There Other (Steps h ps did) (Wants call begun rd next) other goes = absurd goes
+both-go-map There Other (Steps h ps did) (Wants call early_writes rd next) other goes = absurd goes
 both-go-map There Other (Steps h ps did) Wedged other goes = absurd goes
-both-go-map There Other (Wants call begun rd next) to other goes = absurd goes
+both-go-map There Other (Wants call early_writes rd next) to other goes = absurd goes
 both-go-map There Other Wedged to other goes = absurd goes
 
 -- steps that go on alike are steps that go on together
 pub go-together-steps : (There : HartState → HartState → Type 0) (step to : StepResult) → GoOnAlike There step to → AreStepsTogether There step to
 go-together-steps There (Steps h ps did) (Steps g qs done) goes = goes
-go-together-steps There (Steps h ps did) (Wants call begun rd next) goes = absurd goes
+go-together-steps There (Steps h ps did) (Wants call early_writes rd next) goes = absurd goes
 go-together-steps There (Steps h ps did) Wedged goes = absurd goes
-go-together-steps There (Wants call begun rd next) to goes = absurd goes
+go-together-steps There (Wants call early_writes rd next) to goes = absurd goes
 go-together-steps There Wedged to goes = absurd goes
 
 module _ (code : List ℕ) where

@@ -72,13 +72,13 @@ plain_jump : (before after : List Write) (target : ℕ) → IsPlain (jump before
 plain_jump before after target =
     cond_both (target % 4 == 0) (does (before ++ after) (Goes target)) (does before (Raises 0)) (λ (e : Effect). IsPlain e.next) (λ t. tt) (λ f. tt)
 
-plain_load : (kind : LoadKind) (rd pc at : ℕ) (begun : List Write) (word : Option ℕ) → IsPlain (load_word kind rd pc at begun word).next
-plain_load kind rd pc at begun None = tt
-plain_load kind rd pc at begun (Some word) = tt
+plain_load : (kind : LoadKind) (rd pc at : ℕ) (early_writes : List Write) (word : Option ℕ) → IsPlain (load_word kind rd pc at early_writes word).next
+plain_load kind rd pc at early_writes None = tt
+plain_load kind rd pc at early_writes (Some word) = tt
 
-plain_store : (kind : StoreKind) (value pc at : ℕ) (begun : List Write) (word : Option ℕ) → IsPlain (store_word kind value pc at begun word).next
-plain_store kind value pc at begun None = tt
-plain_store kind value pc at begun (Some word) = tt
+plain_store : (kind : StoreKind) (value pc at : ℕ) (early_writes : List Write) (word : Option ℕ) → IsPlain (store_word kind value pc at early_writes word).next
+plain_store kind value pc at early_writes None = tt
+plain_store kind value pc at early_writes (Some word) = tt
 
 pub row-is-plain : (i : Instr) (pc : ℕ) (o : Operands) → is_privileged i ≡ false → IsPlain (effect_of i pc o).next ⊎ (i ≡ Ecall)
 row-is-plain (Lui rd imm20) pc o f = inl tt
@@ -122,23 +122,23 @@ jump_to before after target there other goes faults =
     cond_both (target % 4 == 0) (does (before ++ after) (Goes target)) (does before (Raises 0))
     (λ (e : Effect). latches_of e.writes ≡ if_goes e.next there other) (λ t. goes) (λ f. faults)
 
-abbrev begun_load : ℕ → ℕ → List Write
-begun_load first at = to latches.PortA first (Moved Rs1) ++ to latches.Res at (Mixed (Rs1 ∷ []))
+abbrev early_writes_load : ℕ → ℕ → List Write
+early_writes_load first at = to latches.PortA first (Moved Rs1) ++ to latches.Res at (Mixed (Rs1 ∷ []))
 
-abbrev begun_store : ℕ → ℕ → ℕ → List Write
-begun_store first second at = to latches.PortA first (Moved Rs1) ++ to latches.PortB second (Moved Rs2) ++ to latches.Res at (Mixed (Rs1 ∷ []))
+abbrev early_writes_store : ℕ → ℕ → ℕ → List Write
+early_writes_store first second at = to latches.PortA first (Moved Rs1) ++ to latches.PortB second (Moved Rs2) ++ to latches.Res at (Mixed (Rs1 ∷ []))
 
 load_to : (kind : LoadKind) (rd pc at first : ℕ) (word : Option ℕ)
-    → latches_of (load_word kind rd pc at (begun_load first at) word).writes
-    ≡ if_goes (load_word kind rd pc at (begun_load first at) word).next
+    → latches_of (load_word kind rd pc at (early_writes_load first at) word).writes
+    ≡ if_goes (load_word kind rd pc at (early_writes_load first at) word).next
     (latches.PortA ∷ latches.Res ∷ latches.Load ∷ reg_latch rd) (latches.PortA ∷ latches.Res ∷ [])
 load_to kind rd pc at first None = refl
 load_to kind rd pc at first (Some word) =
     ap (λ ls. latches.PortA ∷ latches.Res ∷ latches.Load ∷ ls) (reg_to rd (load_result kind word at) (loaded_flow kind))
 
 store_to : (kind : StoreKind) (second pc at first : ℕ) (word : Option ℕ)
-    → latches_of (store_word kind second pc at (begun_store first second at) word).writes
-    ≡ stored_latches (seen_deed (Stored (word_address at)) (store_word kind second pc at (begun_store first second at) word).next)
+    → latches_of (store_word kind second pc at (early_writes_store first second at) word).writes
+    ≡ stored_latches (seen_deed (Stored (word_address at)) (store_word kind second pc at (early_writes_store first second at) word).next)
 store_to kind second pc at first None = refl
 store_to kind second pc at first (Some word) = refl
 
@@ -162,12 +162,12 @@ row-latches (Branch op rs1 rs2 off) pc o f =
     (λ n. refl)
 row-latches (Load kind rd rs1 imm) pc o f =
     let at = address o.rs1 imm in
-    cond_both (at % load_size kind == 0) (load_word kind rd pc at (begun_load o.rs1 at) o.word) (does (begun_load o.rs1 at) (Raises 4))
+    cond_both (at % load_size kind == 0) (load_word kind rd pc at (early_writes_load o.rs1 at) o.word) (does (early_writes_load o.rs1 at) (Raises 4))
     (λ (e : Effect). latches_of e.writes ≡ latches_by (Load kind rd rs1 imm) e.next (seen_deed (deed_of (Load kind rd rs1 imm) o.rs1) e.next))
     (λ t. load_to kind rd pc at o.rs1 o.word) (λ n. refl)
 row-latches (Store kind rs2 rs1 imm) pc o f =
     let at = address o.rs1 imm in
-    cond_both (at % store_size kind == 0) (store_word kind o.rs2 pc at (begun_store o.rs1 o.rs2 at) o.word) (does (begun_store o.rs1 o.rs2 at) (Raises 6))
+    cond_both (at % store_size kind == 0) (store_word kind o.rs2 pc at (early_writes_store o.rs1 o.rs2 at) o.word) (does (early_writes_store o.rs1 o.rs2 at) (Raises 6))
     (λ (e : Effect). latches_of e.writes ≡ latches_by (Store kind rs2 rs1 imm) e.next (seen_deed (deed_of (Store kind rs2 rs1 imm) o.rs1) e.next))
     (λ t. store_to kind o.rs2 pc at o.rs1 o.word) (λ n. refl)
 row-latches (AluImm op rd rs1 imm) pc o f =

@@ -48,7 +48,7 @@ pub record AreOnWayTogether (Together : ℕ → HartState → HartState → Type
 -- Two steps go on to harts that are together, with entries that agree publicly, or come to the same queue action, or both are wedged.
 abbrev pub AreStepsTogether : (HartState → HartState → Type 0) → StepResult → StepResult → Type 0
 AreStepsTogether There (Steps h ps did) (Steps g qs other) = AgreePublicly ps qs × There h g
-AreStepsTogether There (Wants call begun rd next) (Wants wanted started to then) = (call ≡ wanted) × (rd ≡ to) × (next ≡ then)
+AreStepsTogether There (Wants call early_writes rd next) (Wants wanted other_early_writes to then) = (call ≡ wanted) × (rd ≡ to) × (next ≡ then)
 AreStepsTogether There Wedged Wedged = ⊤
 AreStepsTogether There step other = ⊥
 
@@ -59,23 +59,23 @@ pub record BothHarts (Together : ℕ → HartState → HartState → Type 0) (ta
   pub ticks : (number : ℕ) (h g : HartState) → AreOnWayTogether Together tasks others k number h g → Together number (tick_of h) (tick_of g)
   pub steps : (number : ℕ) (h g : HartState) → AreOnWayTogether Together tasks others k number h g
       → AreStepsTogether (Together number) (hart_step k.code.words h) (hart_step k.code.words g)
-  pub holds_alike : (number : ℕ) (h g : HartState) (call : QueueCall) (begun started : List CellWrite) (rd next : ℕ)
+  pub holds_alike : (number : ℕ) (h g : HartState) (call : QueueCall) (early_writes other_early_writes : List CellWrite) (rd next : ℕ)
       → AreOnWayTogether Together tasks others k number h g
-      → hart_step k.code.words h ≡ Wants call begun rd next → hart_step k.code.words g ≡ Wants call started rd next
+      → hart_step k.code.words h ≡ Wants call early_writes rd next → hart_step k.code.words g ≡ Wants call other_early_writes rd next
       → AreHeldAlike h.held g.held
-  pub takes : (number : ℕ) (h g : HartState) (begun started : List CellWrite) (rd next : ℕ) (got other : Option ContextState)
+  pub takes : (number : ℕ) (h g : HartState) (early_writes other_early_writes : List CellWrite) (rd next : ℕ) (got other : Option ContextState)
       → AreOnWayTogether Together tasks others k number h g
-      → hart_step k.code.words h ≡ Wants Take begun rd next → hart_step k.code.words g ≡ Wants Take started rd next
+      → hart_step k.code.words h ≡ Wants Take early_writes rd next → hart_step k.code.words g ≡ Wants Take other_early_writes rd next
       → IsGot tasks got → IsGot others other → AreHeldAlike got other
-      → AreLeftTogether Together number (answer_take begun rd next got h) (answer_take started rd next other g)
-  pub gives_ready : (number : ℕ) (h g : HartState) (begun started : List CellWrite) (rd next : ℕ)
+      → AreLeftTogether Together number (answer_take early_writes rd next got h) (answer_take other_early_writes rd next other g)
+  pub gives_ready : (number : ℕ) (h g : HartState) (early_writes other_early_writes : List CellWrite) (rd next : ℕ)
       → AreOnWayTogether Together tasks others k number h g
-      → hart_step k.code.words h ≡ Wants GiveReady begun rd next → hart_step k.code.words g ≡ Wants GiveReady started rd next
-      → AreLeftTogether Together number (answer_give begun next h) (answer_give started next g)
-  pub gives_done : (number : ℕ) (h g : HartState) (begun started : List CellWrite) (rd next : ℕ)
+      → hart_step k.code.words h ≡ Wants GiveReady early_writes rd next → hart_step k.code.words g ≡ Wants GiveReady other_early_writes rd next
+      → AreLeftTogether Together number (answer_give early_writes next h) (answer_give other_early_writes next g)
+  pub gives_done : (number : ℕ) (h g : HartState) (early_writes other_early_writes : List CellWrite) (rd next : ℕ)
       → AreOnWayTogether Together tasks others k number h g
-      → hart_step k.code.words h ≡ Wants GiveDone begun rd next → hart_step k.code.words g ≡ Wants GiveDone started rd next
-      → AreLeftTogether Together number (answer_give begun next h) (answer_give started next g)
+      → hart_step k.code.words h ≡ Wants GiveDone early_writes rd next → hart_step k.code.words g ≡ Wants GiveDone other_early_writes rd next
+      → AreLeftTogether Together number (answer_give early_writes next h) (answer_give other_early_writes next g)
 
 -- Together: no more than some number of steps lead two harts there, both at once.
 abbrev pub LedBoth : (ℕ → HartState → HartState → Type 0) → KernelParts → ℕ → HartState → HartState → Type 0
@@ -89,13 +89,13 @@ pub record StartBoth (There : ℕ → HartState → HartState → Type 0) (tasks
   pub steps : (number : ℕ) (h g : HartState) → There number h g
       → AreStepsTogether (LedBoth There k number) (hart_step k.code.words h) (hart_step k.code.words g)
   pub holds_alike : (number : ℕ) (h g : HartState) → There number h g → AreHeldAlike h.held g.held
-  pub takes : (number : ℕ) (h g : HartState) (begun started : List CellWrite) (rd next : ℕ) (got other : Option ContextState) → There number h g
-      → hart_step k.code.words h ≡ Wants Take begun rd next → hart_step k.code.words g ≡ Wants Take started rd next
+  pub takes : (number : ℕ) (h g : HartState) (early_writes other_early_writes : List CellWrite) (rd next : ℕ) (got other : Option ContextState) → There number h g
+      → hart_step k.code.words h ≡ Wants Take early_writes rd next → hart_step k.code.words g ≡ Wants Take other_early_writes rd next
       → IsGot tasks got → IsGot others other → AreHeldAlike got other
-      → AreLeftTogether (LedBoth There k) number (answer_take begun rd next got h) (answer_take started rd next other g)
-  pub gives_ready : (number : ℕ) (h g : HartState) (begun started : List CellWrite) (rd next : ℕ) → There number h g
-      → hart_step k.code.words h ≡ Wants GiveReady begun rd next → hart_step k.code.words g ≡ Wants GiveReady started rd next
-      → AreLeftTogether (LedBoth There k) number (answer_give begun next h) (answer_give started next g)
-  pub gives_done : (number : ℕ) (h g : HartState) (begun started : List CellWrite) (rd next : ℕ) → There number h g
-      → hart_step k.code.words h ≡ Wants GiveDone begun rd next → hart_step k.code.words g ≡ Wants GiveDone started rd next
-      → AreLeftTogether (LedBoth There k) number (answer_give begun next h) (answer_give started next g)
+      → AreLeftTogether (LedBoth There k) number (answer_take early_writes rd next got h) (answer_take other_early_writes rd next other g)
+  pub gives_ready : (number : ℕ) (h g : HartState) (early_writes other_early_writes : List CellWrite) (rd next : ℕ) → There number h g
+      → hart_step k.code.words h ≡ Wants GiveReady early_writes rd next → hart_step k.code.words g ≡ Wants GiveReady other_early_writes rd next
+      → AreLeftTogether (LedBoth There k) number (answer_give early_writes next h) (answer_give other_early_writes next g)
+  pub gives_done : (number : ℕ) (h g : HartState) (early_writes other_early_writes : List CellWrite) (rd next : ℕ) → There number h g
+      → hart_step k.code.words h ≡ Wants GiveDone early_writes rd next → hart_step k.code.words g ≡ Wants GiveDone other_early_writes rd next
+      → AreLeftTogether (LedBoth There k) number (answer_give early_writes next h) (answer_give other_early_writes next g)

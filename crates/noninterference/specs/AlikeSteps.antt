@@ -30,8 +30,8 @@ pub record AreLeftAlike (a b : HartAndProbes) : Type 0 where
 -- two steps do the same: they go on alike, or come to one queue action alike, or both are wedged
 abbrev pub AreStepsAlike : StepResult → StepResult → Type 0
 AreStepsAlike (Steps h ps did) (Steps g qs other) = AreLeftAlike (record { hart = h; probes = ps }) (record { hart = g; probes = qs }) × (did ≡ other)
-AreStepsAlike (Wants call begun rd next) (Wants wanted started to then) =
-    (call ≡ wanted) × ArePairwise AreWritesAlike begun started × (rd ≡ to) × (next ≡ then)
+AreStepsAlike (Wants call early_writes rd next) (Wants wanted other_early_writes to then) =
+    (call ≡ wanted) × ArePairwise AreWritesAlike early_writes other_early_writes × (rd ≡ to) × (next ≡ then)
 AreStepsAlike Wedged Wedged = ⊤
 AreStepsAlike step other = ⊥
 

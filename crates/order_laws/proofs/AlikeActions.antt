@@ -18,7 +18,8 @@ use Rattle.core_model.specs.declared.loaded.Loaded.{Loaded}
 use Rattle.core_model.specs.declared.plan.Plan.{Plan}
 use Rattle.core_model.specs.AlikeHarts.{AreContextsAlike, AreHeldAlike, AreHartsAlike}
 use Rattle.core_model.specs.Board.{Front, front_of, take_from}
-use Rattle.core_model.specs.Core.{CoreState, CoreAndAction, after_take, after_give_done, after_call, after_step, after_go, event_result}
+use Rattle.core_model.specs.BoardStep.{BoardStep, board_step_by_take, board_step_by_give_done, board_step_by_call, board_step}
+use Rattle.core_model.specs.Core.{CoreState, CoreAndAction, with_board_step, after_step, after_go, event_result}
 use Rattle.core_model.specs.Orders.{HartPace, held_count, count_on, is_user, is_tick_due, events_of_step, pace_after}
 use Rattle.core_model.specs.Plans.{quantum_after}
 use Rattle.core_invariant.proofs.Items.{get-set_same}
@@ -76,77 +77,82 @@ module _ (Together : ℕ → HartState → HartState → Type 0) (k : KernelPart
     on : AreOnWayTogether Together loaded.tasks other.tasks k hart h g
     on = record { way = kept.harts hart h is; other = kept_too.harts hart g is_too; both = together.harts hart h g is is_too }
 
-    take-same : (begun started : List CellWrite) (rd next to then_at : ℕ) (front other_front : Option Front) → AreNextAlike front other_front
-        → AreActionsSame hart (after_take c hart h begun rd next (take_from c.board hart front))
-        (after_take d hart g started to then_at (take_from d.board hart other_front))
-    take-same begun started rd next to then_at None None alike = record { action = refl; pace = λ p. refl }
-    take-same begun started rd next to then_at None (Some y) alike = absurd alike
-    take-same begun started rd next to then_at (Some x) None alike = absurd alike
-    take-same begun started rd next to then_at (Some x) (Some y) alike =
-        let one = get-set_same c.harts hart h (answer_take begun rd next (Some x.context) h).hart is in
-        let two = get-set_same d.harts hart g (answer_take started to then_at (Some y.context) g).hart is_too in
-        let count : count_on (slice_get (set c.harts hart (answer_take begun rd next (Some x.context) h).hart) hart)
-        ≡ count_on (slice_get (set d.harts hart (answer_take started to then_at (Some y.context) g).hart) hart) =
+    -- one action is made by what the steps of the hart come to
+    abbrev SameAfter : BoardStep → BoardStep → Type 0
+    SameAfter r q = AreActionsSame hart (with_board_step c hart r) (with_board_step d hart q)
+
+    take-same : (early_writes other_early_writes : List CellWrite) (rd next to then_at : ℕ) (front other_front : Option Front) → AreNextAlike front other_front
+        → SameAfter (board_step_by_take h early_writes rd next (take_from c.board hart front))
+        (board_step_by_take g other_early_writes to then_at (take_from d.board hart other_front))
+    take-same early_writes other_early_writes rd next to then_at None None alike = record { action = refl; pace = λ p. refl }
+    take-same early_writes other_early_writes rd next to then_at None (Some y) alike = absurd alike
+    take-same early_writes other_early_writes rd next to then_at (Some x) None alike = absurd alike
+    take-same early_writes other_early_writes rd next to then_at (Some x) (Some y) alike =
+        let one = get-set_same c.harts hart h (answer_take early_writes rd next (Some x.context) h).hart is in
+        let two = get-set_same d.harts hart g (answer_take other_early_writes to then_at (Some y.context) g).hart is_too in
+        let count : count_on (slice_get (set c.harts hart (answer_take early_writes rd next (Some x.context) h).hart) hart)
+        ≡ count_on (slice_get (set d.harts hart (answer_take other_early_writes to then_at (Some y.context) g).hart) hart) =
         ap count_on one ∙ alike.context.body.count ∙ sym (ap count_on two) in
         record {
           action = ap (λ t. Some (actions.Took t)) alike.context.body.task_no;
           pace = λ p. ap (λ n. record { takes = p.takes + 1; taken_at = n; has_stopped = false }) count;
         }
 
-    ready-same : (begun started : List CellWrite) (rd next to then_at : ℕ) (held held_too : Option ContextState) → AreHeldAlike held held_too
-        → AreActionsSame hart (after_call c hart h GiveReady begun rd next held) (after_call d hart g GiveReady started to then_at held_too)
-    ready-same begun started rd next to then_at None None alike = none-same hart _ _ refl refl
-    ready-same begun started rd next to then_at None (Some y) alike = absurd alike
-    ready-same begun started rd next to then_at (Some x) None alike = absurd alike
-    ready-same begun started rd next to then_at (Some x) (Some y) alike =
+    ready-same : (early_writes other_early_writes : List CellWrite) (rd next to then_at : ℕ) (held held_too : Option ContextState) → AreHeldAlike held held_too
+        → SameAfter (board_step_by_call c.board hart h GiveReady early_writes rd next held) (board_step_by_call d.board hart g GiveReady other_early_writes to then_at held_too)
+    ready-same early_writes other_early_writes rd next to then_at None None alike = none-same hart _ _ refl refl
+    ready-same early_writes other_early_writes rd next to then_at None (Some y) alike = absurd alike
+    ready-same early_writes other_early_writes rd next to then_at (Some x) None alike = absurd alike
+    ready-same early_writes other_early_writes rd next to then_at (Some x) (Some y) alike =
         record { action = ap (λ t. Some (actions.GaveReady t)) alike.body.task_no; pace = λ p. refl }
 
-    end-same : (begun started : List CellWrite) (next then_at : ℕ) (x y : ContextState) (end end_too : Option End) → AreContextsAlike x y
+    end-same : (early_writes other_early_writes : List CellWrite) (next then_at : ℕ) (x y : ContextState) (end end_too : Option End) → AreContextsAlike x y
         → option_map kind_of end ≡ option_map kind_of end_too
-        → AreActionsSame hart (after_give_done c hart h begun next x end) (after_give_done d hart g started then_at y end_too)
-    end-same begun started next then_at x y None None alike kinds = none-same hart _ _ refl refl
-    end-same begun started next then_at x y None (Some f) alike kinds = absurd (cc kinds)
-    end-same begun started next then_at x y (Some e) None alike kinds = absurd (cc kinds)
-    end-same begun started next then_at x y (Some e) (Some f) alike kinds =
+        → SameAfter (board_step_by_give_done c.board hart h early_writes next x end) (board_step_by_give_done d.board hart g other_early_writes then_at y end_too)
+    end-same early_writes other_early_writes next then_at x y None None alike kinds = none-same hart _ _ refl refl
+    end-same early_writes other_early_writes next then_at x y None (Some f) alike kinds = absurd (cc kinds)
+    end-same early_writes other_early_writes next then_at x y (Some e) None alike kinds = absurd (cc kinds)
+    end-same early_writes other_early_writes next then_at x y (Some e) (Some f) alike kinds =
         record { action = ap (λ t. Some (actions.GaveDone t)) alike.body.task_no; pace = λ p. refl }
 
-    done-same : (begun started : List CellWrite) (rd next to then_at : ℕ) (held held_too : Option ContextState) → AreHeldAlike held held_too
-        → AreActionsSame hart (after_call c hart h GiveDone begun rd next held) (after_call d hart g GiveDone started to then_at held_too)
-    done-same begun started rd next to then_at None None alike = none-same hart _ _ refl refl
-    done-same begun started rd next to then_at None (Some y) alike = absurd alike
-    done-same begun started rd next to then_at (Some x) None alike = absurd alike
-    done-same begun started rd next to then_at (Some x) (Some y) alike = end-same begun started next then_at x y x.end y.end alike alike.end
+    done-same : (early_writes other_early_writes : List CellWrite) (rd next to then_at : ℕ) (held held_too : Option ContextState) → AreHeldAlike held held_too
+        → SameAfter (board_step_by_call c.board hart h GiveDone early_writes rd next held) (board_step_by_call d.board hart g GiveDone other_early_writes to then_at held_too)
+    done-same early_writes other_early_writes rd next to then_at None None alike = none-same hart _ _ refl refl
+    done-same early_writes other_early_writes rd next to then_at None (Some y) alike = absurd alike
+    done-same early_writes other_early_writes rd next to then_at (Some x) None alike = absurd alike
+    done-same early_writes other_early_writes rd next to then_at (Some x) (Some y) alike = end-same early_writes other_early_writes next then_at x y x.end y.end alike alike.end
 
-    call-same : (call : QueueCall) (begun started : List CellWrite) (rd next : ℕ) → AreHeldAlike h.held g.held
-        → AreActionsSame hart (after_call c hart h call begun rd next h.held) (after_call d hart g call started rd next g.held)
-    call-same Take begun started rd next held =
-        take-same begun started rd next rd next (front_of c.board.ready.first c.board.ready.second)
+    call-same : (call : QueueCall) (early_writes other_early_writes : List CellWrite) (rd next : ℕ) → AreHeldAlike h.held g.held
+        → SameAfter (board_step_by_call c.board hart h call early_writes rd next h.held) (board_step_by_call d.board hart g call other_early_writes rd next g.held)
+    call-same Take early_writes other_early_writes rd next held =
+        take-same early_writes other_early_writes rd next rd next (front_of c.board.ready.first c.board.ready.second)
         (front_of d.board.ready.first d.board.ready.second)
         (fronts-alike c.board.ready.first c.board.ready.second d.board.ready.first d.board.ready.second together.board.first together.board.second)
-    call-same GiveReady begun started rd next held = ready-same begun started rd next rd next h.held g.held held
-    call-same GiveDone begun started rd next held = done-same begun started rd next rd next h.held g.held held
+    call-same GiveReady early_writes other_early_writes rd next held = ready-same early_writes other_early_writes rd next rd next h.held g.held held
+    call-same GiveDone early_writes other_early_writes rd next held = done-same early_writes other_early_writes rd next rd next h.held g.held held
 
-    wants-same : (call call_too : QueueCall) (begun started : List CellWrite) (rd rd_too next next_too : ℕ) → call ≡ call_too → rd ≡ rd_too
+    wants-same : (call call_too : QueueCall) (early_writes other_early_writes : List CellWrite) (rd rd_too next next_too : ℕ) → call ≡ call_too → rd ≡ rd_too
         → next ≡ next_too
-        → hart_step k.code.words h ≡ Wants call begun rd next → hart_step k.code.words g ≡ Wants call_too started rd_too next_too
-        → AreActionsSame hart (after_call c hart h call begun rd next h.held) (after_call d hart g call_too started rd_too next_too g.held)
-    wants-same call call_too begun started rd rd_too next next_too calls rds nexts wants wants_too =
-        let e : Wants call_too started rd_too next_too ≡ Wants call started rd next = rw (calls, rds, nexts) refl in
-        let held = both.holds_alike hart h g call begun started rd next on wants (wants_too ∙ e) in
-        let P : StepResult → Type 0 = λ r. AreActionsSame hart (after_call c hart h call begun rd next h.held) (after_step d hart g r) in
-        subst P (sym e) (call-same call begun started rd next held)
+        → hart_step k.code.words h ≡ Wants call early_writes rd next → hart_step k.code.words g ≡ Wants call_too other_early_writes rd_too next_too
+        → SameAfter (board_step_by_call c.board hart h call early_writes rd next h.held)
+        (board_step_by_call d.board hart g call_too other_early_writes rd_too next_too g.held)
+    wants-same call call_too early_writes other_early_writes rd rd_too next next_too calls rds nexts wants wants_too =
+        let e : Wants call_too other_early_writes rd_too next_too ≡ Wants call other_early_writes rd next = rw (calls, rds, nexts) refl in
+        let held = both.holds_alike hart h g call early_writes other_early_writes rd next on wants (wants_too ∙ e) in
+        let P : StepResult → Type 0 = λ r. SameAfter (board_step_by_call c.board hart h call early_writes rd next h.held) (board_step d.board hart g r) in
+        subst P (sym e) (call-same call early_writes other_early_writes rd next held)
 
     step-same : (r q : StepResult) → hart_step k.code.words h ≡ r → hart_step k.code.words g ≡ q → AreStepsTogether (Together hart) r q
         → AreActionsSame hart (after_step c hart h r) (after_step d hart g q)
     step-same (Steps after probes did) (Steps to entries done) e f same = none-same hart _ _ refl refl
-    step-same (Steps after probes did) (Wants call begun rd next) e f same = absurd same
+    step-same (Steps after probes did) (Wants call early_writes rd next) e f same = absurd same
     step-same (Steps after probes did) Wedged e f same = absurd same
-    step-same (Wants call begun rd next) (Steps to entries done) e f same = absurd same
-    step-same (Wants call begun rd next) (Wants call_too started rd_too next_too) e f same =
-        wants-same call call_too begun started rd rd_too next next_too same.0 same.1 same.2 e f
-    step-same (Wants call begun rd next) Wedged e f same = absurd same
+    step-same (Wants call early_writes rd next) (Steps to entries done) e f same = absurd same
+    step-same (Wants call early_writes rd next) (Wants call_too other_early_writes rd_too next_too) e f same =
+        wants-same call call_too early_writes other_early_writes rd rd_too next next_too same.0 same.1 same.2 e f
+    step-same (Wants call early_writes rd next) Wedged e f same = absurd same
     step-same Wedged (Steps to entries done) e f same = absurd same
-    step-same Wedged (Wants call_too started rd_too next_too) e f same = absurd same
+    step-same Wedged (Wants call_too other_early_writes rd_too next_too) e f same = absurd same
     step-same Wedged Wedged e f same = none-same hart _ _ refl refl
 
   go-same : (o p : Option HartState) → slice_get c.harts hart ≡ o → slice_get d.harts hart ≡ p

@@ -15,11 +15,11 @@ use Rattle.hart_model.specs.HartState.{HartState}
 use Rattle.hart_model.specs.StepResult.{StepResult, Wants}
 use Rattle.hart_model.specs.Writes.{CellWrite}
 use Rattle.hart_model.specs.HartStep.{hart_step, answer_take, answer_give}
-use Rattle.core_model.specs.declared.action.Action.TheVariants as actions
 use Rattle.core_model.specs.declared.plan.Plan.{Plan}
 use Rattle.core_model.specs.declared.loaded.Loaded.{Loaded}
 use Rattle.core_model.specs.Board.{BoardState, Front, all_ready, front_of, with_ready, take_from, give_done_of, with_next_admitted}
-use Rattle.core_model.specs.Core.{CoreState, CoreAndAction, after_take, after_give_ready, after_give_done, after_call, after_step, with_action_of, with_hart}
+use Rattle.core_model.specs.BoardStep.{BoardStep, board_step_by_take, board_step_by_give_ready, board_step_by_give_done, board_step_by_call, board_step}
+use Rattle.core_model.specs.Core.{CoreState, CoreAndAction, with_board_step, after_step}
 use Rattle.core_model.specs.Orders.{HartPace, CoarseState, StepsToAction, pace_after, count_on, after_entry, IsLegalEntry, IsLegalFrom}
 use Rattle.core_invariant.proofs.Items.{get-set_same}
 use Rattle.core_invariant.specs.KernelStates.{KernelParts}
@@ -136,10 +136,17 @@ module _ (k : KernelParts) (loaded : Loaded) where
 
     -- The steps of the entry, where they are the hart's own up to an action that it wants.
     module _ (goes_on : pace.has_stopped ≡ false) (a : AtAction) (c : CoreState)
-        (same_core : c ≡ moved_to co.core hart a.hart a.probes) (begun : List CellWrite) (rd next : ℕ) where
+        (same_core : c ≡ moved_to co.core hart a.hart a.probes) (early_writes : List CellWrite) (rd next : ℕ) where
       -- the entry afterwards, by the core and the action that it made
       abbrev Entry : CoreAndAction → CoarseState
       Entry r = record { core = r.core; paces = set co.paces hart (pace_after pace (count_on (slice_get r.core.harts hart)) r.action) }
+
+      -- what the hart's step comes to keeps the core, and then it lowers the potential
+      abbrev KeptAfter : BoardStep → Type 0
+      KeptAfter s = IsCoreKept k loaded (with_board_step c hart s).core
+
+      abbrev LowerAfter : BoardStep → Type 0
+      LowerAfter s = IsLower (potential_of loaded.plans co) (Entry (with_board_step c hart s))
 
       entry-harts : (g : HartState) → set c.harts hart g ≡ set co.core.harts hart g
       entry-harts g = ap (λ (x : CoreState). set x.harts hart g) same_core ∙ set-set co.core.harts hart a.hart g
@@ -153,29 +160,28 @@ module _ (k : KernelParts) (loaded : Loaded) where
       take-paid : (front : Option Front) → front_of c.board.ready.first c.board.ready.second ≡ front → h.held ≡ None
           → timer_potential a.hart ≤ timer_potential h
           → ((f : Front) → front ≡ Some f
-          → IsHolding loaded.tasks k hart (pace_with pace f.context) (answer_take begun rd next (Some f.context) a.hart).hart)
-          → IsCoreKept k loaded (after_take c hart a.hart begun rd next (take_from c.board hart front)).core
-          → IsLower (potential_of loaded.plans co) (Entry (after_take c hart a.hart begun rd next (take_from c.board hart front)))
+          → IsHolding loaded.tasks k hart (pace_with pace f.context) (answer_take early_writes rd next (Some f.context) a.hart).hart)
+          → KeptAfter (board_step_by_take a.hart early_writes rd next (take_from c.board hart front)) → LowerAfter (board_step_by_take a.hart early_writes rd next (take_from c.board hart front))
       take-paid None is free timer holds kept =
-          let g = (answer_take begun rd next None a.hart).hart in
-          let r = after_take c hart a.hart begun rd next (take_from c.board hart None) in
+          let g = (answer_take early_writes rd next None a.hart).hart in
+          let r = with_board_step c hart (board_step_by_take a.hart early_writes rd next (take_from c.board hart None)) in
           let q : HartPace = record pace { has_stopped = true } in
           let board : board_potential r.core.board ≡ board_potential co.core.board = ap board_potential same-board in
-          let left = take-timer begun rd next None a.hart in
+          let left = take-timer early_writes rd next None a.hart in
           let less = stopped-pays g free goes_on refl (omega (arith, left, timer)) in
           record {
             kept = kept-after r.core q g kept (entry-harts g) (λ e. absurd (cc e));
             pays = cost-less r.core q g (entry-harts g) (omega (arith, board, less));
           }
       take-paid (Some f) is free timer holds kept =
-          let g = (answer_take begun rd next (Some f.context) a.hart).hart in
-          let r = after_take c hart a.hart begun rd next (take_from c.board hart (Some f)) in
+          let g = (answer_take early_writes rd next (Some f.context) a.hart).hart in
+          let r = with_board_step c hart (board_step_by_take a.hart early_writes rd next (take_from c.board hart (Some f))) in
           let q : HartPace = pace_with pace f.context in
           let pace_is : pace_after pace (count_on (slice_get r.core.harts hart)) r.action ≡ q =
           ap (λ (o : Option HartState). pace_after pace (count_on o) r.action) (at-hart g) in
           let waiting : sum_by waiting_potential r.core.board.waiting ≡ sum_by waiting_potential co.core.board.waiting =
           ap (λ (b : BoardState). sum_by waiting_potential b.waiting) same-board in
-          let left = take-timer begun rd next (Some f.context) a.hart in
+          let left = take-timer early_writes rd next (Some f.context) a.hart in
           let less = got-pays g f free goes_on refl (ap (λ (b : BoardState). front_of b.ready.first b.ready.second) (sym same-board) ∙ is)
           (omega (arith, left, timer)) in
           let P : HartPace → Type 0 = λ p. IsLower (potential_of loaded.plans co) (record { core = r.core; paces = set co.paces hart p }) in
@@ -185,18 +191,17 @@ module _ (k : KernelParts) (loaded : Loaded) where
           })
 
       ready-paid : (x : ContextState) → ready_potential x + timer_potential a.hart + 2 ≤ held_potential plan pace h.held + timer_potential h
-          → IsFree loaded.tasks k hart (answer_give begun next a.hart).hart
-          → IsCoreKept k loaded (after_give_ready c hart a.hart begun next x).core
-          → IsLower (potential_of loaded.plans co) (Entry (after_give_ready c hart a.hart begun next x))
+          → IsFree loaded.tasks k hart (answer_give early_writes next a.hart).hart
+          → KeptAfter (board_step_by_give_ready c.board hart a.hart early_writes next x) → LowerAfter (board_step_by_give_ready c.board hart a.hart early_writes next x)
       ready-paid x pays free kept =
-          let g = (answer_give begun next a.hart).hart in
-          let r = after_give_ready c hart a.hart begun next x in
+          let g = (answer_give early_writes next a.hart).hart in
+          let r = with_board_step c hart (board_step_by_give_ready c.board hart a.hart early_writes next x) in
           let waiting : sum_by waiting_potential r.core.board.waiting ≡ sum_by waiting_potential co.core.board.waiting =
           ap (λ (b : BoardState). sum_by waiting_potential b.waiting) same-board in
           let ready : sum_by ready_potential (all_ready r.core.board.ready)
           ≡ sum_by ready_potential (all_ready (with_ready co.core.board.bands co.core.board.ready x)) =
           ap (λ (b : BoardState). sum_by ready_potential (all_ready (with_ready b.bands b.ready x))) same-board in
-          let left = give-timer begun next a.hart in
+          let left = give-timer early_writes next a.hart in
           let less = ready-pays g x goes_on refl (omega (arith, left, pays)) in
           record {
             kept = kept-after r.core pace g kept (entry-harts g) (λ e. inl free);
@@ -204,62 +209,53 @@ module _ (k : KernelParts) (loaded : Loaded) where
           }
 
       done-paid : (x d : ContextState) (end : End) → h.held ≡ Some d → timer_potential a.hart ≤ timer_potential h
-          → IsFree loaded.tasks k hart (answer_give begun next a.hart).hart
-          → IsCoreKept k loaded
-          (with_action_of (actions.GaveDone x.body.task_no) (with_hart c hart (answer_give begun next a.hart) (give_done_of c.board hart x end))).core
-          → IsLower (potential_of loaded.plans co)
-          (Entry (with_action_of (actions.GaveDone x.body.task_no)
-          (with_hart c hart (answer_give begun next a.hart) (give_done_of c.board hart x end))))
+          → IsFree loaded.tasks k hart (answer_give early_writes next a.hart).hart
+          → KeptAfter (board_step_by_give_done c.board hart a.hart early_writes next x (Some end)) → LowerAfter (board_step_by_give_done c.board hart a.hart early_writes next x (Some end))
       done-paid x d end holds timer free kept =
-          let g = (answer_give begun next a.hart).hart in
-          let r = with_action_of (actions.GaveDone x.body.task_no)
-          (with_hart c hart (answer_give begun next a.hart) (give_done_of c.board hart x end)) in
+          let g = (answer_give early_writes next a.hart).hart in
+          let r = with_board_step c hart (board_step_by_give_done c.board hart a.hart early_writes next x (Some end)) in
           let board : board_potential r.core.board ≡ board_potential (give_done_of co.core.board hart x end) =
           ap (λ (b : BoardState). board_potential (give_done_of b hart x end)) same-board in
-          let left = give-timer begun next a.hart in
+          let left = give-timer early_writes next a.hart in
           let less = done-pays g x d end goes_on refl holds (omega (arith, left, timer)) in
           record {
             kept = kept-after r.core pace g kept (entry-harts g) (λ e. inl free);
             pays = cost-less r.core pace g (entry-harts g) (omega (arith, board, less));
           }
 
-      -- the step of a core whose hart wants this, by what it holds
-      abbrev Stepped : StepResult → CoreAndAction
-      Stepped step = after_step c hart a.hart step
+      -- the step of the hart where it wants this, by what it holds
+      abbrev Stepped : StepResult → BoardStep
+      Stepped step = board_step c.board hart a.hart step
 
-      paid-take : hart_step k.code.words a.hart ≡ Wants Take begun rd next → h.held ≡ None → Takes loaded.tasks k plan hart pace h Take a.hart
-          → IsCoreKept k loaded (Stepped (Wants Take begun rd next)).core
-          → IsLower (potential_of loaded.plans co) (Entry (Stepped (Wants Take begun rd next)))
+      paid-take : hart_step k.code.words a.hart ≡ Wants Take early_writes rd next → h.held ≡ None → Takes loaded.tasks k plan hart pace h Take a.hart
+          → KeptAfter (Stepped (Wants Take early_writes rd next))
+          → LowerAfter (Stepped (Wants Take early_writes rd next))
       paid-take wants free takes kept =
           take-paid (front_of c.board.ready.first c.board.ready.second) refl free takes.timer
-          (λ f is. takes.then_holds begun rd next f.context wants
+          (λ f is. takes.then_holds early_writes rd next f.context wants
           (front-ready loaded.tasks co.core.board.ready between.core.ready f
           (sym (ap (λ (b : BoardState). front_of b.ready.first b.ready.second) same-board) ∙ is))) kept
 
       paid-ready : (x : ContextState) → a.hart.held ≡ Some x
           → ready_potential x + timer_potential a.hart + 2 ≤ held_potential plan pace h.held + timer_potential h
-          → IsFree loaded.tasks k hart (answer_give begun next a.hart).hart
-          → IsCoreKept k loaded (Stepped (Wants GiveReady begun rd next)).core
-          → IsLower (potential_of loaded.plans co) (Entry (Stepped (Wants GiveReady begun rd next)))
+          → IsFree loaded.tasks k hart (answer_give early_writes next a.hart).hart
+          → KeptAfter (Stepped (Wants GiveReady early_writes rd next))
+          → LowerAfter (Stepped (Wants GiveReady early_writes rd next))
       paid-ready x held pays free kept =
-          let same : after_call c hart a.hart GiveReady begun rd next a.hart.held ≡ after_give_ready c hart a.hart begun next x =
-          ap (after_call c hart a.hart GiveReady begun rd next) held in
-          let P : CoreAndAction → Type 0 = λ r. IsLower (potential_of loaded.plans co) (Entry r) in
-          let Kept : CoreAndAction → Type 0 = λ r. IsCoreKept k loaded r.core in
-          subst P (sym same) (ready-paid x pays free (subst Kept same kept))
+          let same : Stepped (Wants GiveReady early_writes rd next) ≡ board_step_by_give_ready c.board hart a.hart early_writes next x =
+          ap (board_step_by_call c.board hart a.hart GiveReady early_writes rd next) held in
+          subst LowerAfter (sym same) (ready-paid x pays free (subst KeptAfter same kept))
 
       paid-done : (x d : ContextState) (end : End) → a.hart.held ≡ Some x → x.end ≡ Some end → h.held ≡ Some d
           → timer_potential a.hart ≤ timer_potential h
-          → IsFree loaded.tasks k hart (answer_give begun next a.hart).hart
-          → IsCoreKept k loaded (Stepped (Wants GiveDone begun rd next)).core
-          → IsLower (potential_of loaded.plans co) (Entry (Stepped (Wants GiveDone begun rd next)))
+          → IsFree loaded.tasks k hart (answer_give early_writes next a.hart).hart
+          → KeptAfter (Stepped (Wants GiveDone early_writes rd next))
+          → LowerAfter (Stepped (Wants GiveDone early_writes rd next))
       paid-done x d end held has_end holds timer free kept =
-          let same : after_call c hart a.hart GiveDone begun rd next a.hart.held
-          ≡ with_action_of (actions.GaveDone x.body.task_no) (with_hart c hart (answer_give begun next a.hart) (give_done_of c.board hart x end)) =
-          ap (after_call c hart a.hart GiveDone begun rd next) held ∙ ap (after_give_done c hart a.hart begun next x) has_end in
-          let P : CoreAndAction → Type 0 = λ r. IsLower (potential_of loaded.plans co) (Entry r) in
-          let Kept : CoreAndAction → Type 0 = λ r. IsCoreKept k loaded r.core in
-          subst P (sym same) (done-paid x d end holds timer free (subst Kept same kept))
+          let same : Stepped (Wants GiveDone early_writes rd next) ≡ board_step_by_give_done c.board hart a.hart early_writes next x (Some end) =
+          ap (board_step_by_call c.board hart a.hart GiveDone early_writes rd next) held
+          ∙ ap (board_step_by_give_done c.board hart a.hart early_writes next x) has_end in
+          subst LowerAfter (sym same) (done-paid x d end holds timer free (subst KeptAfter same kept))
 
     -- what the steps of the entry leave
     abbrev ByCore : CoarseState → StepsToAction → CoarseState
@@ -275,13 +271,13 @@ module _ (k : KernelParts) (loaded : Loaded) where
     found-paid goes_on a none takes kept w =
         let at = moved_to co.core hart a.hart a.probes in
         let Q : QueueCall → Type 0 =
-        λ call. (hart_step k.code.words a.hart ≡ Wants call w.begun w.rd w.next) × Takes loaded.tasks k plan hart pace h call a.hart in
+        λ call. (hart_step k.code.words a.hart ≡ Wants call w.early_writes w.rd w.next) × Takes loaded.tasks k plan hart pace h call a.hart in
         let both : Q Take = subst Q takes.call_is (w.wants, takes) in
         let Kept : StepResult → Type 0 = λ s. IsCoreKept k loaded (after_step at hart a.hart s).core in
         let P : StepResult → Type 0 = λ s. (let r = after_step at hart a.hart s in
         IsLower (potential_of loaded.plans co)
         (record { core = r.core; paces = set co.paces hart (pace_after pace (count_on (slice_get r.core.harts hart)) r.action) })) in
-        subst P (sym both.0) (paid-take goes_on a at refl w.begun w.rd w.next both.0 none both.1 (subst Kept both.0 kept))
+        subst P (sym both.0) (paid-take goes_on a at refl w.early_writes w.rd w.next both.0 none both.1 (subst Kept both.0 kept))
 
     gave-paid : (goes_on : pace.has_stopped ≡ false) (a : AtAction) (d : ContextState) → h.held ≡ Some d
         → Gives loaded.tasks k plan hart pace h a.call a.hart
@@ -290,17 +286,17 @@ module _ (k : KernelParts) (loaded : Loaded) where
         → IsLower (potential_of loaded.plans co) (ByCore co (acted_steps k.code.words co.core hart a))
     gave-paid goes_on a d holds gives kept w =
         let at = moved_to co.core hart a.hart a.probes in
-        let free = gives.then_free w.begun w.rd w.next w.wants in
+        let free = gives.then_free w.early_writes w.rd w.next w.wants in
         let Kept : StepResult → Type 0 = λ s. IsCoreKept k loaded (after_step at hart a.hart s).core in
         let P : StepResult → Type 0 = λ s. (let r = after_step at hart a.hart s in
         IsLower (potential_of loaded.plans co)
         (record { core = r.core; paces = set co.paces hart (pace_after pace (count_on (slice_get r.core.harts hart)) r.action) })) in
-        let W : QueueCall → Type 0 = λ call. hart_step k.code.words a.hart ≡ Wants call w.begun w.rd w.next in
+        let W : QueueCall → Type 0 = λ call. hart_step k.code.words a.hart ≡ Wants call w.early_writes w.rd w.next in
         elim gives.pays [
           | inl ready ↦ (let wants = subst W ready.0 w.wants in
-              subst P (sym wants) (paid-ready goes_on a at refl w.begun w.rd w.next gives.context gives.held ready.1 free (subst Kept wants kept)))
+              subst P (sym wants) (paid-ready goes_on a at refl w.early_writes w.rd w.next gives.context gives.held ready.1 free (subst Kept wants kept)))
           | inr done ↦ (let wants = subst W done.0 w.wants in
-              subst P (sym wants) (paid-done goes_on a at refl w.begun w.rd w.next gives.context d done.1.0 gives.held done.1.1 holds done.2 free
+              subst P (sym wants) (paid-done goes_on a at refl w.early_writes w.rd w.next gives.context d done.1.0 gives.held done.1.1 holds done.2 free
               (subst Kept wants kept)))
         ]
 

@@ -23,7 +23,7 @@ use Rattle.order_laws.proofs.PathArrives.{writes-calm, side-calm}
 -- after a step in machine mode none is pending where none was
 abbrev pub IsCalmStep : StepResult → Type 0
 IsCalmStep (Steps hart probes did) = hart.csrs.is_timer_pending ≡ false
-IsCalmStep (Wants call begun rd next) = ⊤
+IsCalmStep (Wants call early_writes rd next) = ⊤
 IsCalmStep Wedged = ⊤
 
 written-pending : (c d : CsrFile) (csr value : ℕ) → with_public_csr c csr value ≡ Some d → d.is_timer_pending ≡ c.is_timer_pending

@@ -37,7 +37,7 @@ use Rattle.core_invariant.proofs.DoneEnds.{GivesEnded, EndsDone, pc-of-trap, don
 use Rattle.core_invariant.proofs.DoneLeads.{fuel-ends, fault-ends, exit-ends, out-full-ends, tape-end-ends, bad-call-ends}
 use Rattle.core_invariant.proofs.DonePaths.{fuel_answers, fault_answers, exit_answers, out_full_answers, tape_end_answers, bad_call_answers, trap_csrs}
 use Rattle.core_invariant.proofs.Gives.{wants-give-ready, wants-give-done, given-ready, given-done, give_writes}
-use Rattle.core_invariant.proofs.Takes.{wants-take, after-take, taken-x5, take_begun}
+use Rattle.core_invariant.proofs.Takes.{wants-take, after-take, taken-x5, take_early_writes}
 use Rattle.core_invariant.proofs.TakenStands.{taken-stands}
 use Rattle.core_invariant.proofs.Idle.{jumps-to-take}
 use Rattle.symbolic_run.proofs.Paths.{paths-lead}
@@ -87,17 +87,17 @@ module _ (tasks : List Task) (k : KernelParts) (kernel : IsKernel k) (number : �
   Holding pace h = IsHolding tasks k number pace h
 
   -- TAKES
-  taken-holding : (pace : HartPace) (g : HartState) (c : ContextState) (begun : List CellWrite) (rd next : ℕ)
+  taken-holding : (pace : HartPace) (g : HartState) (c : ContextState) (early_writes : List CellWrite) (rd next : ℕ)
       → IsEmptyHanded tasks number (middle_at k + 4 * take_index) g
-      → hart_step k.code.words g ≡ Wants Take begun rd next → IsReadyContext tasks c
-      → Holding (pace_with pace c) (answer_take begun rd next (Some c) g).hart
-  taken-holding pace g c begun rd next e wants ready =
+      → hart_step k.code.words g ≡ Wants Take early_writes rd next → IsReadyContext tasks c
+      → Holding (pace_with pace c) (answer_take early_writes rd next (Some c) g).hart
+  taken-holding pace g c early_writes rd next e wants ready =
       let known = wants-take k kernel.linked tasks number g e in
-      let same_begun : take_begun ≡ begun = cc (known, wants) in
+      let same_early_writes : take_early_writes ≡ early_writes = cc (known, wants) in
       let same_rd : 5 ≡ rd = cc (known, wants) in
       let same_next : middle_at k + 4 * (take_index + 1) ≡ next = cc (known, wants) in
       let H : List CellWrite → ℕ → ℕ → HartState = λ ws r n. (answer_take ws r n (Some c) g).hart in
-      let f = H take_begun 5 (middle_at k + 4 * (take_index + 1)) in
+      let f = H take_early_writes 5 (middle_at k + 4 * (take_index + 1)) in
       let after = after-take k kernel.linked tasks number g (Some c) e in
       let stands = taken-stands tasks c ready k number f after.0 refl (taken-x5 g (public (slot_address c.slot)) e.hart.registers) in
       let holds : Holding (pace_with pace c) f = record {
@@ -109,9 +109,9 @@ module _ (tasks : List Task) (k : KernelParts) (kernel : IsKernel k) (number : �
         some_take = omega arith;
       } in
       let P : List CellWrite → Type 0 = λ ws. Holding (pace_with pace c) (H ws rd next) in
-      let Q : ℕ → Type 0 = λ r. Holding (pace_with pace c) (H take_begun r next) in
-      let R : ℕ → Type 0 = λ n. Holding (pace_with pace c) (H take_begun 5 n) in
-      subst P same_begun (subst Q same_rd (subst R same_next holds))
+      let Q : ℕ → Type 0 = λ r. Holding (pace_with pace c) (H take_early_writes r next) in
+      let R : ℕ → Type 0 = λ n. Holding (pace_with pace c) (H take_early_writes 5 n) in
+      subst P same_early_writes (subst Q same_rd (subst R same_next holds))
 
   -- a hart that holds nothing comes to a take
   abbrev TakesThere : HartPace → HartState → QueueCall → HartState → Type 0
@@ -120,13 +120,13 @@ module _ (tasks : List Task) (k : KernelParts) (kernel : IsKernel k) (number : �
   at-take : (pace : HartPace) (steps : ℕ) (before h : HartState) → IsEmptyHanded tasks number (middle_at k + 4 * take_index) h
       → timer_potential h ≤ timer_potential before → Reaches k.code.words plan pace number (suc steps) (TakesThere pace before) h
   at-take pace steps before h e timer =
-      comes-now k.code.words plan pace number (TakesThere pace before) steps h Take take_begun 5 (middle_at k + 4 * (take_index + 1))
+      comes-now k.code.words plan pace number (TakesThere pace before) steps h Take take_early_writes 5 (middle_at k + 4 * (take_index + 1))
       (not-due k.code.words plan pace number (TakesThere pace before) h e.hart.mode) (wants-take k kernel.linked tasks number h e)
       (record {
         call_is = refl;
         held = e.held;
         timer = timer;
-        then_holds = λ begun rd next c wants ready. taken-holding pace h c begun rd next e wants ready;
+        then_holds = λ early_writes rd next c wants ready. taken-holding pace h c early_writes rd next e wants ready;
       })
 
   finds : (pace : HartPace) (h : HartState) → Free h → Reaches k.code.words plan pace number turn_steps (TakesThere pace h) h
@@ -167,12 +167,12 @@ module _ (tasks : List Task) (k : KernelParts) (kernel : IsKernel k) (number : �
           context = d;
           held = giving.held;
           pays = inl (refl, pays);
-          then_free = λ begun rd next wants. (let same_begun : give_writes (public 0) ≡ begun = cc (sym known ∙ wants) in
+          then_free = λ early_writes rd next wants. (let same_early_writes : give_writes (public 0) ≡ early_writes = cc (sym known ∙ wants) in
               let same_next : middle_at k + 4 * take_index ≡ next = cc (sym known ∙ wants) in
               let F : List CellWrite → ℕ → Type 0 = λ ws n. Free (answer_give ws n g).hart in
               let P : List CellWrite → Type 0 = λ ws. F ws next in
               let Q : ℕ → Type 0 = λ n. F (give_writes (public 0)) n in
-              subst P same_begun (subst Q same_next (inl (given-ready k kernel.linked tasks number g d giving).0)));
+              subst P same_early_writes (subst Q same_next (inl (given-ready k kernel.linked tasks number g d giving).0)));
         })
 
     -- and of an ended one
@@ -186,12 +186,12 @@ module _ (tasks : List Task) (k : KernelParts) (kernel : IsKernel k) (number : �
           context = d;
           held = giving.held;
           pays = inr (refl, (giving.given.end, giving.given.has_end), timer);
-          then_free = λ begun rd next wants. (let same_begun : give_writes (public 1) ≡ begun = cc (sym known ∙ wants) in
+          then_free = λ early_writes rd next wants. (let same_early_writes : give_writes (public 1) ≡ early_writes = cc (sym known ∙ wants) in
               let same_next : middle_at k + 4 * (give_done_index + 1) ≡ next = cc (sym known ∙ wants) in
               let F : List CellWrite → ℕ → Type 0 = λ ws n. Free (answer_give ws n g).hart in
               let P : List CellWrite → Type 0 = λ ws. F ws next in
               let Q : ℕ → Type 0 = λ n. F (give_writes (public 1)) n in
-              subst P same_begun (subst Q same_next (inr (given-done k kernel.linked tasks number g d giving).0)));
+              subst P same_early_writes (subst Q same_next (inr (given-done k kernel.linked tasks number g d giving).0)));
         })
 
     -- as many steps as there are

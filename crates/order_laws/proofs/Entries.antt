@@ -27,10 +27,10 @@ use Rattle.order_laws.proofs.Reach.{own-more}
 
 -- a hart that comes to an action wants it
 pub record WantsNow (code : List ℕ) (call : QueueCall) (g : HartState) : Type 0 where
-  pub begun : List CellWrite
+  pub early_writes : List CellWrite
   pub rd : ℕ
   pub next : ℕ
-  pub wants : hart_step code g ≡ Wants call begun rd next
+  pub wants : hart_step code g ≡ Wants call early_writes rd next
 
 module _ (code : List ℕ) (plan : Plan) (pace : HartPace) (number : ℕ) where
   wants-rest : (probes : List Probe) (events : List Event) (o : Option AtAction) (a : AtAction) → after_own events probes o ≡ Some a
@@ -56,10 +56,10 @@ module _ (code : List ℕ) (plan : Plan) (pace : HartPace) (number : ℕ) where
           → WantsNow code a.call a.hart
       by-step events f (Steps g probes did) is e further =
           wants-rest probes events (own_steps code plan pace number steps g) a e (λ b own. further g b own)
-      by-step events f (Wants call begun rd next) is e further =
+      by-step events f (Wants call early_writes rd next) is e further =
           let same : record { call = call; hart = f; probes = []; events = events } ≡ a = cc e in
           let P : AtAction → Type 0 = λ x. WantsNow code x.call x.hart in
-          subst P same (record { begun = begun; rd = rd; next = next; wants = is })
+          subst P same (record { early_writes = early_writes; rd = rd; next = next; wants = is })
       by-step events f Wedged is e further = absurd (cc e)
 
 -- a place of a list that is long enough
@@ -195,5 +195,5 @@ module _ (k : KernelParts) (loaded : Loaded) (one : EachHart loaded.tasks k) (co
 
     pub acts : (action : Action) × ((acted k.code.words co.core hart a.at).action ≡ Some action)
     acts =
-        let m = made k loaded one hart at_action a.at.hart action-kept at-hart a.at.call wants.begun wants.rd wants.next wants.wants in
+        let m = made k loaded one hart at_action a.at.hart action-kept at-hart a.at.call wants.early_writes wants.rd wants.next wants.wants in
         (m.0, ap (λ (s : StepResult). (after_step at_action hart a.at.hart s).action) wants.wants ∙ m.1)

@@ -40,7 +40,7 @@ module _ (code : List ℕ) (plan : Plan) (pace : HartPace) (number : ℕ) where
               let rest = further g b own in
               let sum : length (probes ++ b.probes) + 6 ≤ 6 * suc steps = omega (arith, both, rest, few) in
               subst (λ (x : AtAction). length x.probes + 6 ≤ 6 * suc steps) same sum
-      by-step events f (Wants call begun rd next) few e further =
+      by-step events f (Wants call early_writes rd next) few e further =
           let same : record { call = call; hart = f; probes = []; events = events } ≡ a = cc e in
           let none : length {A = Probe} [] + 6 ≤ 6 * suc steps = omega arith in
           subst (λ (x : AtAction). length x.probes + 6 ≤ 6 * suc steps) same none

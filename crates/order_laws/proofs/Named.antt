@@ -65,7 +65,7 @@ writes-named number (w ∷ writes) h is = (is, writes-named number writes (hart_
 -- those of a step
 abbrev pub IsStepNamed : ℕ → StepResult → Type 0
 IsStepNamed number (Steps hart probes did) = AreNamed number probes
-IsStepNamed number (Wants call begun rd next) = ⊤
+IsStepNamed number (Wants call early_writes rd next) = ⊤
 IsStepNamed number Wedged = ⊤
 
 module _ (number : ℕ) where

@@ -8,16 +8,16 @@ use Rattle.hart_model.specs.declared.probe.Probe.{Probe}
 use Rattle.hart_model.specs.declared.tag.Cell.{Cell}
 use Rattle.hart_model.specs.Context.{BodyState, ContextState}
 use Rattle.hart_model.specs.HartState.{HartState, tick_of}
-use Rattle.hart_model.specs.Writes.{CellWrite, HartAndProbes}
+use Rattle.hart_model.specs.Writes.{CellWrite}
 use Rattle.hart_model.specs.StepResult.{StepResult, Steps, Wants, Wedged}
-use Rattle.hart_model.specs.HartStep.{hart_step, loaded_writes, take_cell, answer_take, answer_give}
+use Rattle.hart_model.specs.HartStep.{hart_step, loaded_writes, take_cell}
 use Rattle.core_model.specs.declared.action.Action.{Action}
-use Rattle.core_model.specs.declared.action.Action.TheVariants as actions
 use Rattle.core_model.specs.declared.event.Event.{Event}
 use Rattle.core_model.specs.declared.event.Event.TheVariants.{Go, Tick}
 use Rattle.core_model.specs.Events.{hart_of}
-use Rattle.core_model.specs.Board.{BoardState, Front, front_of, take_from, give_ready_of, give_done_of, with_next_admitted}
-use Rattle.core_model.specs.Core.{CoreState, CoreAndAction, without_action, with_hart, take_action, after_take, after_give_done, after_call, after_step, after_go, after_tick, event_result}
+use Rattle.core_model.specs.Board.{BoardState, Front, front_of, take_from, take_of, with_next_admitted}
+use Rattle.core_model.specs.BoardStep.{BoardStep, board_step_by_take, board_step_by_give_done, board_step_by_call, board_step}
+use Rattle.core_model.specs.Core.{CoreState, CoreAndAction, without_action, after_step, after_go, after_tick, event_result}
 use Rattle.core_invariant.proofs.Items.{get-set_other}
 use Rattle.order_laws.specs.CoarseRuns.{entries_by}
 use Rattle.order_laws.proofs.Named.{AreNamed, IsStepNamed, none-of-others, writes-named, step-named}
@@ -41,6 +41,56 @@ admitted-order : (b : BoardState) (slot : ℕ) (words : List Cell) (waiting : Li
 admitted-order b slot words [] = refl
 admitted-order b slot words (next ∷ rest) = refl
 
+-- A STEP OVER A BOARD
+module _ (hart : ℕ) (b : BoardState) (h : HartState) where
+  -- adds its action to the order;
+  taken-order : (early_writes : List CellWrite) (rd next : ℕ) (front : Option Front)
+      → (board_step_by_take h early_writes rd next (take_from b hart front)).board.order ≡ b.order ++ hart ∷ []
+  taken-order early_writes rd next None = refl
+  taken-order early_writes rd next (Some front) = refl
+
+  -- the order afterwards
+  abbrev OrderBy : BoardStep → Type 0
+  OrderBy s = s.board.order ≡ b.order ++ entry_of hart s.action
+
+  done-order : (early_writes : List CellWrite) (next : ℕ) (held : ContextState) (end : Option End)
+      → OrderBy (board_step_by_give_done b hart h early_writes next held end)
+  done-order early_writes next held None = sym (append-nil b.order)
+  done-order early_writes next held (Some end) = admitted-order _ held.slot held.words b.waiting
+
+  call-order : (call : QueueCall) (early_writes : List CellWrite) (rd next : ℕ) (held : Option ContextState)
+      → OrderBy (board_step_by_call b hart h call early_writes rd next held)
+  call-order Take early_writes rd next held = taken-order early_writes rd next (front_of b.ready.first b.ready.second)
+  call-order GiveReady early_writes rd next None = sym (append-nil b.order)
+  call-order GiveDone early_writes rd next None = sym (append-nil b.order)
+  call-order GiveReady early_writes rd next (Some held) = refl
+  call-order GiveDone early_writes rd next (Some held) = done-order early_writes next held held.end
+
+  pub step-order : (step : StepResult) → OrderBy (board_step b hart h step)
+  step-order (Steps after probes did) = sym (append-nil b.order)
+  step-order (Wants call early_writes rd next) = call-order call early_writes rd next h.held
+  step-order Wedged = sym (append-nil b.order)
+
+  -- and where the hart is the one of its number, its entries name it.
+  module _ (is : h.csrs.hart ≡ hart) where
+    done-named : (early_writes : List CellWrite) (next : ℕ) (held : ContextState) (end : Option End)
+        → AreNamed hart (board_step_by_give_done b hart h early_writes next held end).probes
+    done-named early_writes next held None = tt
+    done-named early_writes next held (Some end) = writes-named hart early_writes h is
+
+    call-named : (call : QueueCall) (early_writes : List CellWrite) (rd next : ℕ) (held : Option ContextState)
+        → AreNamed hart (board_step_by_call b hart h call early_writes rd next held).probes
+    call-named Take early_writes rd next held = writes-named hart (early_writes ++ loaded_writes rd (take_cell (take_of b hart).got)) h is
+    call-named GiveReady early_writes rd next None = tt
+    call-named GiveDone early_writes rd next None = tt
+    call-named GiveReady early_writes rd next (Some held) = writes-named hart early_writes h is
+    call-named GiveDone early_writes rd next (Some held) = done-named early_writes next held held.end
+
+    pub step-probes-named : (step : StepResult) → IsStepNamed hart step → AreNamed hart (board_step b hart h step).probes
+    step-probes-named (Steps after probes did) named = named
+    step-probes-named (Wants call early_writes rd next) named = call-named call early_writes rd next h.held
+    step-probes-named Wedged named = tt
+
 module _ (hart : ℕ) where
   unchanged : (c : CoreState) → ChangesAt hart c (without_action c)
   unchanged c = record {
@@ -51,51 +101,16 @@ module _ (hart : ℕ) where
     order = sym (append-nil c.board.order);
   }
 
-  with-changes : (c : CoreState) (a : HartAndProbes) (b : BoardState) (action : Option Action) → AreNamed hart a.probes
-      → b.order ≡ c.board.order ++ entry_of hart action → ChangesAt hart c (record { core = with_hart c hart a b; action = action })
-  with-changes c a b action named order = record {
-    others = λ i ne. get-set_other c.harts hart i a.hart ne;
-    probes = a.probes;
-    named = named;
-    log = refl;
-    order = order;
-  }
-
-  take-changes : (c : CoreState) (h : HartState) (begun : List CellWrite) (rd next : ℕ) (front : Option Front) → h.csrs.hart ≡ hart
-      → ChangesAt hart c (after_take c hart h begun rd next (take_from c.board hart front))
-  take-changes c h begun rd next None is =
-      with-changes c (answer_take begun rd next None h) (take_from c.board hart None).board (Some (take_action None))
-      (writes-named hart (begun ++ loaded_writes rd (take_cell None)) h is) refl
-  take-changes c h begun rd next (Some front) is =
-      with-changes c (answer_take begun rd next (Some front.context) h) (take_from c.board hart (Some front)).board
-      (Some (take_action (Some front.context)))
-      (writes-named hart (begun ++ loaded_writes rd (take_cell (Some front.context))) h is) refl
-
-  done-changes : (c : CoreState) (h : HartState) (begun : List CellWrite) (next : ℕ) (held : ContextState) (end : Option End) → h.csrs.hart ≡ hart
-      → ChangesAt hart c (after_give_done c hart h begun next held end)
-  done-changes c h begun next held None is = unchanged c
-  done-changes c h begun next held (Some end) is =
-      with-changes c (answer_give begun next h) (give_done_of c.board hart held end) (Some (actions.GaveDone held.body.task_no))
-      (writes-named hart begun h is) (admitted-order _ held.slot held.words c.board.waiting)
-
-  call-changes : (c : CoreState) (h : HartState) (call : QueueCall) (begun : List CellWrite) (rd next : ℕ) (held : Option ContextState)
-      → h.csrs.hart ≡ hart
-      → ChangesAt hart c (after_call c hart h call begun rd next held)
-  call-changes c h Take begun rd next held is = take-changes c h begun rd next (front_of c.board.ready.first c.board.ready.second) is
-  call-changes c h GiveReady begun rd next None is = unchanged c
-  call-changes c h GiveDone begun rd next None is = unchanged c
-  call-changes c h GiveReady begun rd next (Some held) is =
-      with-changes c (answer_give begun next h) (give_ready_of c.board hart held) (Some (actions.GaveReady held.body.task_no))
-      (writes-named hart begun h is) refl
-  call-changes c h GiveDone begun rd next (Some held) is = done-changes c h begun next held held.end is
-
   -- What a step of the hart comes to, where it is the one of its number.
   pub step-changes : (c : CoreState) (h : HartState) (step : StepResult) → h.csrs.hart ≡ hart → IsStepNamed hart step
       → ChangesAt hart c (after_step c hart h step)
-  step-changes c h (Steps after probes did) is named =
-      with-changes c (record { hart = after; probes = probes }) c.board None named (sym (append-nil c.board.order))
-  step-changes c h (Wants call begun rd next) is named = call-changes c h call begun rd next h.held is
-  step-changes c h Wedged is named = unchanged c
+  step-changes c h step is named = record {
+    others = λ i ne. get-set_other c.harts hart i (board_step c.board hart h step).hart ne;
+    probes = (board_step c.board hart h step).probes;
+    named = step-probes-named hart c.board h is step named;
+    log = refl;
+    order = step-order hart c.board h step;
+  }
 
   module _ (code : List ℕ) where
     go-changes : (c : CoreState) (o : Option HartState) → ((h : HartState) → o ≡ Some h → h.csrs.hart ≡ hart)

@@ -15,7 +15,9 @@ use Rattle.core_model.specs.declared.event.Event.{Event}
 use Rattle.core_model.specs.declared.event.Event.TheVariants.{Go, Tick}
 use Rattle.core_model.specs.declared.plan.Plan.{Plan}
 use Rattle.core_model.specs.declared.loaded.Loaded.{Loaded}
-use Rattle.core_model.specs.Core.{CoreState, CoreAndAction, after_go, after_tick, after_step, after_call, after_give_done}
+use Rattle.core_model.specs.Board.{BoardState}
+use Rattle.core_model.specs.BoardStep.{board_step_by_give_done, board_step_by_call}
+use Rattle.core_model.specs.Core.{CoreState, CoreAndAction, after_go, after_tick, after_step}
 use Rattle.core_model.specs.Routines.{ticked_if}
 use Rattle.core_model.specs.Orders.{HartPace, StepsToAction, is_tick_due, events_of_step, result_of, then_steps, unless_action, steps_to_action}
 use Rattle.core_invariant.proofs.Items.{get-set_same, set-same}
@@ -52,34 +54,35 @@ module _ (code : List ℕ) (number : ℕ) where
 
 -- Where a hart of a core that is kept wants the queue, it makes an action.
 module _ (k : KernelParts) (loaded : Loaded) (one : EachHart loaded.tasks k) (number : ℕ) where
-  made-done : (c : CoreState) (h : HartState) (begun : List CellWrite) (next : ℕ) (held : ContextState) (end : Option End) (e : End) → end ≡ Some e
-      → (a : Action) × ((after_give_done c number h begun next held end).action ≡ Some a)
-  made-done c h begun next held None e is = absurd (cc is)
-  made-done c h begun next held (Some end) e is = (_, refl)
+  made-done : (b : BoardState) (h : HartState) (early_writes : List CellWrite) (next : ℕ) (held : ContextState) (end : Option End) (e : End)
+      → end ≡ Some e → (a : Action) × ((board_step_by_give_done b number h early_writes next held end).action ≡ Some a)
+  made-done b h early_writes next held None e is = absurd (cc is)
+  made-done b h early_writes next held (Some end) e is = (_, refl)
 
-  made-ready : (c : CoreState) (h : HartState) (begun : List CellWrite) (rd next : ℕ) (held : Option ContextState) (x : ContextState) → held ≡ Some x
-      → (a : Action) × ((after_call c number h GiveReady begun rd next held).action ≡ Some a)
-  made-ready c h begun rd next None x is = absurd (cc is)
-  made-ready c h begun rd next (Some held) x is = (_, refl)
+  made-ready : (b : BoardState) (h : HartState) (early_writes : List CellWrite) (rd next : ℕ) (held : Option ContextState) (x : ContextState)
+      → held ≡ Some x → (a : Action) × ((board_step_by_call b number h GiveReady early_writes rd next held).action ≡ Some a)
+  made-ready b h early_writes rd next None x is = absurd (cc is)
+  made-ready b h early_writes rd next (Some held) x is = (_, refl)
 
-  made-ended : (c : CoreState) (h : HartState) (begun : List CellWrite) (rd next : ℕ) (held : Option ContextState) (x : ContextState) (e : End)
+  made-ended : (b : BoardState) (h : HartState) (early_writes : List CellWrite) (rd next : ℕ) (held : Option ContextState) (x : ContextState) (e : End)
       → held ≡ Some x
-      → x.end ≡ Some e → (a : Action) × ((after_call c number h GiveDone begun rd next held).action ≡ Some a)
-  made-ended c h begun rd next None x e is end = absurd (cc is)
-  made-ended c h begun rd next (Some held) x e is end =
+      → x.end ≡ Some e → (a : Action) × ((board_step_by_call b number h GiveDone early_writes rd next held).action ≡ Some a)
+  made-ended b h early_writes rd next None x e is end = absurd (cc is)
+  made-ended b h early_writes rd next (Some held) x e is end =
       let same : held ≡ x = cc is in
-      made-done c h begun next held held.end e (ap (λ (y : ContextState). y.end) same ∙ end)
+      made-done b h early_writes next held held.end e (ap (λ (y : ContextState). y.end) same ∙ end)
 
   pub made : (c : CoreState) (h : HartState) → IsCoreKept k loaded c → slice_get c.harts number ≡ Some h
-      → (call : QueueCall) (begun : List CellWrite) (rd next : ℕ)
-      → hart_step k.code.words h ≡ Wants call begun rd next → (a : Action) × ((after_call c number h call begun rd next h.held).action ≡ Some a)
-  made c h kept is Take begun rd next wants = (_, refl)
-  made c h kept is GiveReady begun rd next wants =
-      let gives = one.gives_ready number h begun rd next (kept.harts number h is) wants in
-      made-ready c h begun rd next h.held gives.context gives.held
-  made c h kept is GiveDone begun rd next wants =
-      let gives = one.gives_done number h begun rd next (kept.harts number h is) wants in
-      made-ended c h begun rd next h.held gives.context gives.given.end gives.held gives.given.has_end
+      → (call : QueueCall) (early_writes : List CellWrite) (rd next : ℕ)
+      → hart_step k.code.words h ≡ Wants call early_writes rd next
+      → (a : Action) × ((board_step_by_call c.board number h call early_writes rd next h.held).action ≡ Some a)
+  made c h kept is Take early_writes rd next wants = (_, refl)
+  made c h kept is GiveReady early_writes rd next wants =
+      let gives = one.gives_ready number h early_writes rd next (kept.harts number h is) wants in
+      made-ready c.board h early_writes rd next h.held gives.context gives.held
+  made c h kept is GiveDone early_writes rd next wants =
+      let gives = one.gives_done number h early_writes rd next (kept.harts number h is) wants in
+      made-ended c.board h early_writes rd next h.held gives.context gives.given.end gives.held gives.given.has_end
 
   -- the steps in the core, and those of the hart alone
   module _ (plan : Plan) (pace : HartPace) where
@@ -125,12 +128,12 @@ module _ (k : KernelParts) (loaded : Loaded) (one : EachHart loaded.tasks k) (nu
             subst P same (ap (then_steps events) rest
             ∙ ap (λ (x : CoreState). (let r = after_step x number b.hart (hart_step k.code.words b.hart) in
             let s : StepsToAction = record { events = events ++ b.events; core = r.core; action = r.action } in s)) core)
-    by-step steps c h events (Wants call begun rd next) a kept is e own after further =
+    by-step steps c h events (Wants call early_writes rd next) a kept is e own after further =
         let same : record { call = call; hart = h; probes = []; events = events } ≡ a = cc own in
         let P : AtAction → Type 0 =
-        λ x. unless_action (InCore steps) events (after_step (moved_to c number h []) number h (Wants call begun rd next)).core
-        (after_step (moved_to c number h []) number h (Wants call begun rd next)).action ≡ acted_steps k.code.words c number x in
-        let m = made (moved_to c number h []) h kept is call begun rd next e in
+        λ x. unless_action (InCore steps) events (after_step (moved_to c number h []) number h (Wants call early_writes rd next)).core
+        (after_step (moved_to c number h []) number h (Wants call early_writes rd next)).action ≡ acted_steps k.code.words c number x in
+        let m = made (moved_to c number h []) h kept is call early_writes rd next e in
         subst P same (made-now (InCore steps) events _ _ m.0 m.1
         ∙ ap (λ (s : StepResult). (let r = after_step (moved_to c number h []) number h s in
         let t : StepsToAction = record { events = events; core = r.core; action = r.action } in t)) (sym e))
@@ -190,7 +193,7 @@ module _ (k : KernelParts) (loaded : Loaded) (one : EachHart loaded.tasks k) (nu
             ap (λ (x : CoreState). moved_to x number b.hart b.probes) (moved-twice k.code.words number c h g [] probes)
             ∙ moved-twice k.code.words number c g b.hart ([] ++ probes) b.probes in
             subst P same (subst Kept core (further d g b after there f))
-    kept-by steps c h events (Wants call begun rd next) a kept is own after further =
+    kept-by steps c h events (Wants call early_writes rd next) a kept is own after further =
         let same : record { call = call; hart = h; probes = []; events = events } ≡ a = cc own in
         let P : AtAction → Type 0 = λ x. IsCoreKept k loaded (moved_to c number x.hart x.probes) in
         subst P same kept

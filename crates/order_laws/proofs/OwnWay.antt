@@ -56,7 +56,7 @@ module _ (tasks : List Task) (k : KernelParts) (one : EachHart tasks k) (plan : 
       by-step events f (Steps g probes did) on is named e further =
           let there = (one.steps number f g probes did on is).hart in
           rest-way probes events (own_steps k.code.words plan pace number steps g) a e named (λ b own. further g b there own)
-      by-step events f (Wants call begun rd next) on is named e further =
+      by-step events f (Wants call early_writes rd next) on is named e further =
           let same : record { call = call; hart = f; probes = []; events = events } ≡ a = cc e in
           subst IsOwnWay same (record { way = on; named = tt })
       by-step events f Wedged on is named e further = absurd (cc e)

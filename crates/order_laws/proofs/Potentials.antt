@@ -50,9 +50,9 @@ taken-pays plan pace c = by-test (nat_le (pace.takes + 1) (length plan.quanta)) 
     by-test false test = let lt = leb-false (pace.takes + 1) (length plan.quanta) test in omega (arith, lt)
 
 -- The queue's answers leave the timer.
-pub take-timer : (begun : List CellWrite) (rd next : ℕ) (got : Option ContextState) (h : HartState)
-    → timer_potential (answer_take begun rd next got h).hart ≡ timer_potential h
-take-timer begun rd next got h = let calm = writes-calm (begun ++ loaded_writes rd (take_cell got)) h in rw calm refl
+pub take-timer : (early_writes : List CellWrite) (rd next : ℕ) (got : Option ContextState) (h : HartState)
+    → timer_potential (answer_take early_writes rd next got h).hart ≡ timer_potential h
+take-timer early_writes rd next got h = let calm = writes-calm (early_writes ++ loaded_writes rd (take_cell got)) h in rw calm refl
 
-pub give-timer : (begun : List CellWrite) (next : ℕ) (h : HartState) → timer_potential (answer_give begun next h).hart ≡ timer_potential h
-give-timer begun next h = let calm = writes-calm begun h in rw calm refl
+pub give-timer : (early_writes : List CellWrite) (next : ℕ) (h : HartState) → timer_potential (answer_give early_writes next h).hart ≡ timer_potential h
+give-timer early_writes next h = let calm = writes-calm early_writes h in rw calm refl

@@ -35,7 +35,7 @@ module _ (code : List ℕ) (plan : Plan) (pace : HartPace) (number : ℕ) where
               → after_own events probes (Own (suc steps) g) ≡ Some a
           by-rest None own e = absurd (cc e)
           by-rest (Some b) own e = ap (after_own events probes) (further g b own) ∙ e
-      by-step events f (Wants call begun rd next) e further = e
+      by-step events f (Wants call early_writes rd next) e further = e
       by-step events f Wedged e further = e
 
   pub own-more : (more steps : ℕ) (h : HartState) (a : AtAction) → Own steps h ≡ Some a → Own (more + steps) h ≡ Some a
@@ -76,10 +76,10 @@ module _ (code : List ℕ) (plan : Plan) (pace : HartPace) (number : ℕ) (There
       }
 
   -- where the step wants the queue
-  pub comes-now : (steps : ℕ) (h : HartState) (call : QueueCall) (begun : List CellWrite) (rd next : ℕ) → is_tick_due plan pace h ≡ false
-      → hart_step code h ≡ Wants call begun rd next → There call h → Comes (suc steps) h
+  pub comes-now : (steps : ℕ) (h : HartState) (call : QueueCall) (early_writes : List CellWrite) (rd next : ℕ) → is_tick_due plan pace h ≡ false
+      → hart_step code h ≡ Wants call early_writes rd next → There call h → Comes (suc steps) h
   unfolding own_steps
-  comes-now steps h call begun rd next calm wants there = record {
+  comes-now steps h call early_writes rd next calm wants there = record {
     action = record { call = call; hart = h; probes = []; events = events_of_step plan pace number (Some h) };
     own = by-due (is_tick_due plan pace h) calm;
     there = there;
@@ -120,11 +120,11 @@ module _ (code : List ℕ) (plan : Plan) (pace : HartPace) (number : ℕ) (There
           }
 
   -- a step that wants the queue is where it leads,
-  pub comes-here : (steps : ℕ) (h : HartState) (call : QueueCall) (begun : List CellWrite) (rd next : ℕ)
-      → hart_step code (ticked_if (is_tick_due plan pace h) h) ≡ Wants call begun rd next → Comes (suc steps) h
+  pub comes-here : (steps : ℕ) (h : HartState) (call : QueueCall) (early_writes : List CellWrite) (rd next : ℕ)
+      → hart_step code (ticked_if (is_tick_due plan pace h) h) ≡ Wants call early_writes rd next → Comes (suc steps) h
       → There call (ticked_if (is_tick_due plan pace h) h)
   unfolding own_steps
-  comes-here steps h call begun rd next is comes =
+  comes-here steps h call early_writes rd next is comes =
       let events = events_of_step plan pace number (Some h) in
       let f = ticked_if (is_tick_due plan pace h) h in
       let own = subst (λ s. own_by (own_steps code plan pace number steps) events f s ≡ Some comes.action) is comes.own in

@@ -15,7 +15,8 @@ use Rattle.hart_model.specs.HartStep.{hart_step, answer_take, answer_give}
 use Rattle.core_model.specs.declared.plan.Plan.{Plan}
 use Rattle.core_model.specs.declared.loaded.Loaded.{Loaded}
 use Rattle.core_model.specs.Board.{BoardState, Front, all_ready, front_of, take_from, take_of}
-use Rattle.core_model.specs.Core.{CoreState, CoreAndAction, after_take, after_give_ready, after_give_done, after_call, after_step}
+use Rattle.core_model.specs.BoardStep.{BoardStep, board_step_by_take, board_step_by_give_ready, board_step_by_give_done, board_step_by_call, board_step}
+use Rattle.core_model.specs.Core.{CoreState, CoreAndAction, with_board_step, after_step}
 use Rattle.core_model.specs.Loaded.{IsWithinLimits}
 use Rattle.core_model.specs.Routines.{ticked_if, IsReadyContext}
 use Rattle.core_model.specs.Orders.{HartPace, CoarseState, boot_pace, boot_coarse, plan_at, pace_after, count_on, is_tick_due, events_of_step, result_of, IsLegalEntry}
@@ -147,21 +148,28 @@ module _ (k : KernelParts) (loaded : Loaded) (one : EachHart loaded.tasks k) (pl
   get-here : (y : HartState) → slice_get (set c.harts hart y) hart ≡ Some y
   get-here y = ap (λ (hs : List HartState). slice_get hs hart) (set-here y) ∙ get-set_same co.core.harts hart g.state y g.is_hart
 
-  abbrev After-step : StepResult → CoreAndAction
-  After-step step = after_step c hart f step
+  -- what the hart's step comes to, after which the core is kept, and the run
+  abbrev Stepped : StepResult → BoardStep
+  Stepped step = board_step c.board hart f step
+
+  abbrev KeptAfter : BoardStep → Type 0
+  KeptAfter s = IsCoreKept k loaded (with_board_step c hart s).core
+
+  abbrev SteppedAfter : BoardStep → Type 0
+  SteppedAfter s = IsSteppedKept k loaded (After (with_board_step c hart s))
 
   -- a take
-  take-kept : (begun : List CellWrite) (rd next : ℕ) (board : BoardState) (got : Option ContextState) → IsGot loaded.tasks got
+  take-kept : (early_writes : List CellWrite) (rd next : ℕ) (board : BoardState) (got : Option ContextState) → IsGot loaded.tasks got
       → ((x : ContextState) → IsReadyContext loaded.tasks x
-      → IsHolding loaded.tasks k hart (pace_with g.pace x) (answer_take begun rd next (Some x) f).hart)
-      → IsCoreKept k loaded (after_take c hart f begun rd next (record { board = board; got = got })).core
-      → IsSteppedKept k loaded (After (after_take c hart f begun rd next (record { board = board; got = got })))
-  take-kept begun rd next board None is holds core =
-      kept-after _ (record g.pace { has_stopped = true }) (answer_take begun rd next None f).hart core
-      (set-here (answer_take begun rd next None f).hart) (λ e. absurd (cc e))
-  take-kept begun rd next board (Some x) is holds core =
-      let y = (answer_take begun rd next (Some x) f).hart in
-      let r = after_take c hart f begun rd next (record { board = board; got = Some x }) in
+      → IsHolding loaded.tasks k hart (pace_with g.pace x) (answer_take early_writes rd next (Some x) f).hart)
+      → KeptAfter (board_step_by_take f early_writes rd next (record { board = board; got = got }))
+      → SteppedAfter (board_step_by_take f early_writes rd next (record { board = board; got = got }))
+  take-kept early_writes rd next board None is holds core =
+      kept-after _ (record g.pace { has_stopped = true }) (answer_take early_writes rd next None f).hart core
+      (set-here (answer_take early_writes rd next None f).hart) (λ e. absurd (cc e))
+  take-kept early_writes rd next board (Some x) is holds core =
+      let y = (answer_take early_writes rd next (Some x) f).hart in
+      let r = with_board_step c hart (board_step_by_take f early_writes rd next (record { board = board; got = Some x })) in
       let q : HartPace = pace_with g.pace x in
       let pace_is : pace_after g.pace (count_on (slice_get r.core.harts hart)) r.action ≡ q =
       ap (λ (o : Option HartState). pace_after g.pace (count_on o) r.action) (get-here y) in
@@ -169,14 +177,14 @@ module _ (k : KernelParts) (loaded : Loaded) (one : EachHart loaded.tasks k) (pl
       subst P (sym pace_is)
       (kept-after r.core q y core (set-here y) (λ e. begins loaded.tasks k plan hart turn q y (inr (holds x is))))
 
-  took : (call : QueueCall) (begun : List CellWrite) (rd next : ℕ) → hart_step k.code.words f ≡ Wants call begun rd next
+  took : (call : QueueCall) (early_writes : List CellWrite) (rd next : ℕ) → hart_step k.code.words f ≡ Wants call early_writes rd next
       → Takes loaded.tasks k plan hart g.pace in_turn.before call f
-      → IsCoreKept k loaded (After-step (Wants call begun rd next)).core → IsSteppedKept k loaded (After (After-step (Wants call begun rd next)))
-  took Take begun rd next wants takes core =
-      take-kept begun rd next (take_of c.board hart).board (take_of c.board hart).got
-      (got-ready loaded.tasks c.board hart kept.core.ready) (λ x ready. takes.then_holds begun rd next x wants ready) core
-  took GiveReady begun rd next wants takes core = absurd (cc takes.call_is)
-  took GiveDone begun rd next wants takes core = absurd (cc takes.call_is)
+      → KeptAfter (Stepped (Wants call early_writes rd next)) → SteppedAfter (Stepped (Wants call early_writes rd next))
+  took Take early_writes rd next wants takes core =
+      take-kept early_writes rd next (take_of c.board hart).board (take_of c.board hart).got
+      (got-ready loaded.tasks c.board hart kept.core.ready) (λ x ready. takes.then_holds early_writes rd next x wants ready) core
+  took GiveReady early_writes rd next wants takes core = absurd (cc takes.call_is)
+  took GiveDone early_writes rd next wants takes core = absurd (cc takes.call_is)
 
   -- a give
   abbrev WantsGives : QueueCall → Type 0
@@ -185,41 +193,38 @@ module _ (k : KernelParts) (loaded : Loaded) (one : EachHart loaded.tasks k) (pl
   freed : (y : HartState) → IsFree loaded.tasks k hart y → IsInTurn loaded.tasks k plan hart g.pace y
   freed y free = begins loaded.tasks k plan hart turn g.pace y (inl free)
 
-  ready-kept : (begun : List CellWrite) (rd next : ℕ) (x : ContextState) → f.held ≡ Some x
-      → IsFree loaded.tasks k hart (answer_give begun next f).hart
-      → IsCoreKept k loaded (After-step (Wants GiveReady begun rd next)).core → IsSteppedKept k loaded (After (After-step (Wants GiveReady begun rd next)))
-  ready-kept begun rd next x held free core =
-      let y = (answer_give begun next f).hart in
-      let same : after_call c hart f GiveReady begun rd next f.held ≡ after_give_ready c hart f begun next x =
-      ap (after_call c hart f GiveReady begun rd next) held in
-      let P : CoreAndAction → Type 0 = λ r. IsSteppedKept k loaded (After r) in
-      let Kept : CoreAndAction → Type 0 = λ r. IsCoreKept k loaded r.core in
-      subst P (sym same) (kept-after _ g.pace y (subst Kept same core) (set-here y) (λ e. freed y free))
+  ready-kept : (early_writes : List CellWrite) (rd next : ℕ) (x : ContextState) → f.held ≡ Some x
+      → IsFree loaded.tasks k hart (answer_give early_writes next f).hart
+      → KeptAfter (Stepped (Wants GiveReady early_writes rd next)) → SteppedAfter (Stepped (Wants GiveReady early_writes rd next))
+  ready-kept early_writes rd next x held free core =
+      let y = (answer_give early_writes next f).hart in
+      let same : Stepped (Wants GiveReady early_writes rd next) ≡ board_step_by_give_ready c.board hart f early_writes next x =
+      ap (board_step_by_call c.board hart f GiveReady early_writes rd next) held in
+      subst SteppedAfter (sym same) (kept-after _ g.pace y (subst KeptAfter same core) (set-here y) (λ e. freed y free))
 
-  done-kept : (begun : List CellWrite) (rd next : ℕ) (x : ContextState) (end : End) → f.held ≡ Some x → x.end ≡ Some end
-      → IsFree loaded.tasks k hart (answer_give begun next f).hart
-      → IsCoreKept k loaded (After-step (Wants GiveDone begun rd next)).core → IsSteppedKept k loaded (After (After-step (Wants GiveDone begun rd next)))
-  done-kept begun rd next x end held has_end free core =
-      let y = (answer_give begun next f).hart in
-      let same : after_call c hart f GiveDone begun rd next f.held ≡ after_give_done c hart f begun next x (Some end) =
-      ap (after_call c hart f GiveDone begun rd next) held ∙ ap (after_give_done c hart f begun next x) has_end in
-      let P : CoreAndAction → Type 0 = λ r. IsSteppedKept k loaded (After r) in
-      let Kept : CoreAndAction → Type 0 = λ r. IsCoreKept k loaded r.core in
-      subst P (sym same) (kept-after _ g.pace y (subst Kept same core) (set-here y) (λ e. freed y free))
+  done-kept : (early_writes : List CellWrite) (rd next : ℕ) (x : ContextState) (end : End) → f.held ≡ Some x → x.end ≡ Some end
+      → IsFree loaded.tasks k hart (answer_give early_writes next f).hart
+      → KeptAfter (Stepped (Wants GiveDone early_writes rd next)) → SteppedAfter (Stepped (Wants GiveDone early_writes rd next))
+  done-kept early_writes rd next x end held has_end free core =
+      let y = (answer_give early_writes next f).hart in
+      let same : Stepped (Wants GiveDone early_writes rd next) ≡ board_step_by_give_done c.board hart f early_writes next x (Some end) =
+      ap (board_step_by_call c.board hart f GiveDone early_writes rd next) held
+      ∙ ap (board_step_by_give_done c.board hart f early_writes next x) has_end in
+      subst SteppedAfter (sym same) (kept-after _ g.pace y (subst KeptAfter same core) (set-here y) (λ e. freed y free))
 
-  gave : (call : QueueCall) (begun : List CellWrite) (rd next : ℕ) → hart_step k.code.words f ≡ Wants call begun rd next → WantsGives call
-      → IsCoreKept k loaded (After-step (Wants call begun rd next)).core → IsSteppedKept k loaded (After (After-step (Wants call begun rd next)))
-  gave Take begun rd next wants gives core = elim gives.pays [ inl ready ↦ absurd (cc ready.0) | inr done ↦ absurd (cc done.0) ]
-  gave GiveReady begun rd next wants gives core =
-      ready-kept begun rd next gives.context gives.held (gives.then_free begun rd next wants) core
-  gave GiveDone begun rd next wants gives core = elim gives.pays [
+  gave : (call : QueueCall) (early_writes : List CellWrite) (rd next : ℕ) → hart_step k.code.words f ≡ Wants call early_writes rd next → WantsGives call
+      → KeptAfter (Stepped (Wants call early_writes rd next)) → SteppedAfter (Stepped (Wants call early_writes rd next))
+  gave Take early_writes rd next wants gives core = elim gives.pays [ inl ready ↦ absurd (cc ready.0) | inr done ↦ absurd (cc done.0) ]
+  gave GiveReady early_writes rd next wants gives core =
+      ready-kept early_writes rd next gives.context gives.held (gives.then_free early_writes rd next wants) core
+  gave GiveDone early_writes rd next wants gives core = elim gives.pays [
     | inl ready ↦ absurd (cc ready.0)
-    | inr done ↦ done-kept begun rd next gives.context done.1.0 gives.held done.1.1 (gives.then_free begun rd next wants) core
+    | inr done ↦ done-kept early_writes rd next gives.context done.1.0 gives.held done.1.1 (gives.then_free early_writes rd next wants) core
   ]
 
   -- whatever the step is
-  by-step : (step : StepResult) → hart_step k.code.words f ≡ step → IsCoreKept k loaded (After-step step).core
-      → IsSteppedKept k loaded (After (After-step step))
+  by-step : (step : StepResult) → hart_step k.code.words f ≡ step → KeptAfter (Stepped step)
+      → SteppedAfter (Stepped step)
   by-step (Steps y probes did) is core =
       kept-after _ g.pace y core (set-here y)
       (λ e. record {
@@ -227,11 +232,11 @@ module _ (k : KernelParts) (loaded : Loaded) (one : EachHart loaded.tasks k) (pl
         reaches = comes-then k.code.words plan g.pace hart (Ends loaded.tasks k plan hart g.pace in_turn.before) 4899 g.state y probes did is
             in_turn.reaches;
       })
-  by-step (Wants call begun rd next) is core =
-      elim (comes-here k.code.words plan g.pace hart (Ends loaded.tasks k plan hart g.pace in_turn.before) 4899 g.state call begun rd next is
+  by-step (Wants call early_writes rd next) is core =
+      elim (comes-here k.code.words plan g.pace hart (Ends loaded.tasks k plan hart g.pace in_turn.before) 4899 g.state call early_writes rd next is
       in_turn.reaches) [
-        | inl takes ↦ took call begun rd next is takes core
-        | inr gives ↦ gave call begun rd next is gives core
+        | inl takes ↦ took call early_writes rd next is takes core
+        | inr gives ↦ gave call early_writes rd next is gives core
       ]
   by-step Wedged is core =
       absurd (comes-on k.code.words plan g.pace hart (Ends loaded.tasks k plan hart g.pace in_turn.before) 4899 g.state is in_turn.reaches)

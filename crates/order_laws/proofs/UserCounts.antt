@@ -64,7 +64,7 @@ pub record Counts (h : HartState) (count : Option ℕ) (g : HartState) : Type 0 
 
 abbrev pub StepCounts : HartState → Option ℕ → StepResult → Type 0
 StepCounts h count (Steps g probes did) = Counts h count g
-StepCounts h count (Wants call begun rd next) = Unit {0}
+StepCounts h count (Wants call early_writes rd next) = Unit {0}
 StepCounts h count Wedged = Unit {0}
 
 follow-counts : (h : HartState) (count : Option ℕ) (a : HartAndProbes) (next : Next) → Counts h count a.hart
@@ -104,7 +104,7 @@ interrupt-counts h cause some =
 -- MACHINE MODE: the count stays
 abbrev pub KeepsCount : HartState → StepResult → Type 0
 KeepsCount h (Steps g probes did) = count_held g.held ≡ count_held h.held
-KeepsCount h (Wants call begun rd next) = Unit {0}
+KeepsCount h (Wants call early_writes rd next) = Unit {0}
 KeepsCount h Wedged = Unit {0}
 
 side-context : (side : SideEffect) (held : Option ContextState) → count_held (option_map (held_after_side side) held) ≡ count_held held

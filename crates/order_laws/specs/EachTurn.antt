@@ -33,8 +33,8 @@ module _ (tasks : List Task) (k : KernelParts) (plan : Plan) (number : ℕ) wher
     pub call_is : call ≡ Take
     pub held : h.held ≡ None
     pub timer : timer_potential h ≤ timer_potential before
-    pub then_holds : (begun : List CellWrite) (rd next : ℕ) (c : ContextState) → hart_step k.code.words h ≡ Wants Take begun rd next
-        → IsReadyContext tasks c → IsHolding tasks k number (pace_with pace c) (answer_take begun rd next (Some c) h).hart
+    pub then_holds : (early_writes : List CellWrite) (rd next : ℕ) (c : ContextState) → hart_step k.code.words h ≡ Wants Take early_writes rd next
+        → IsReadyContext tasks c → IsHolding tasks k number (pace_with pace c) (answer_take early_writes rd next (Some c) h).hart
 
   -- It comes to a give, of a context that costs at least two less than what the hart held before, or of an ended one; then it is free.
   pub record Gives (pace : HartPace) (before : HartState) (call : QueueCall) (h : HartState) : Type 0 where
@@ -43,8 +43,8 @@ module _ (tasks : List Task) (k : KernelParts) (plan : Plan) (number : ℕ) wher
     pub pays : ((call ≡ GiveReady)
         × (ready_potential context + timer_potential h + 2 ≤ held_potential plan pace before.held + timer_potential before))
         ⊎ ((call ≡ GiveDone) × ((end : End) × (context.end ≡ Some end)) × (timer_potential h ≤ timer_potential before))
-    pub then_free : (begun : List CellWrite) (rd next : ℕ) → hart_step k.code.words h ≡ Wants call begun rd next
-        → IsFree tasks k number (answer_give begun next h).hart
+    pub then_free : (early_writes : List CellWrite) (rd next : ℕ) → hart_step k.code.words h ≡ Wants call early_writes rd next
+        → IsFree tasks k number (answer_give early_writes next h).hart
 
   -- A free hart comes to a take, and one that holds a context to its give.
   pub record EachTurn : Type 0 where

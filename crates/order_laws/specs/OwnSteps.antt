@@ -26,7 +26,7 @@ after_own events probes (Some a) = Some (record { call = a.call; hart = a.hart; 
 
 abbrev pub own_by : (HartState → Option AtAction) → List Event → HartState → StepResult → Option AtAction
 own_by further events h (Steps g probes did) = after_own events probes (further g)
-own_by further events h (Wants call begun rd next) = Some (record { call = call; hart = h; probes = []; events = events })
+own_by further events h (Wants call early_writes rd next) = Some (record { call = call; hart = h; probes = []; events = events })
 own_by further events h Wedged = None
 
 -- The steps of the hart of a number by its plan, no more than so many; None where it comes to no queue action by them.

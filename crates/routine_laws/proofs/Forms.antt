@@ -142,8 +142,8 @@ module _ (c : Contents) (a : AbstractState) (f : FitState c a) where
   place-fit : (rs1 : ℕ) (imm : ℤ) (place : Place) → reached_by c rs1 imm ≡ Some place → Fits (content_at c place) (abstract_cell_at a place)
   place-fit rs1 imm place e = fit-at c a place (place-spoken c rs1 imm place e) f
 
-  abbrev load_begun : ℕ → ℕ → List Write
-  load_begun rs1 at =
+  abbrev load_early_writes : ℕ → ℕ → List Write
+  load_early_writes rs1 at =
       record { to = latches.PortA; value = rs1; flow = Moved Rs1 } ∷ record { to = latches.Res; value = at; flow = Mixed (Rs1 ∷ []) } ∷ []
 
   -- LW
@@ -158,12 +158,12 @@ module _ (c : Contents) (a : AbstractState) (f : FitState c a) where
       let ao : AbstractOperands = operands_of a instr (Some word) in
       let m = mixed-untagged base at is.untagged in
       let fits = place-fit rs1 imm place e in
-      let row : List Write = load_begun (stand_in base) at ++ record { to = latches.Load; value = stand_in word; flow = Moved Word }
+      let row : List Write = load_early_writes (stand_in base) at ++ record { to = latches.Load; value = stand_in word; flow = Moved Word }
       ∷ reg_write (rd == 0) rd (stand_in word) (Moved Word) in
       record {
         writes = goes places.PortA base ∷ goes places.Res m.cell ∷ goes places.Load word ∷ reg_goes (rd == 0) rd word;
         effect = ap (λ o. by_word a instr (word_at_place o)) is.found
-            ∙ goes-true ao (at % 4 == 0) row (load_begun (stand_in base) at) 4 4 is.aligned
+            ∙ goes-true ao (at % 4 == 0) row (load_early_writes (stand_in base) at) 4 4 is.aligned
             ∙ ap (λ o. with_write (Some places.PortA) (Some base) (with_write (Some places.Res) o (with_write (Some places.Load) (Some word)
             (abstract_writes ao (reg_write (rd == 0) rd (stand_in word) (Moved Word)))))) m.is
             ∙ ap (λ o. with_write (Some places.PortA) (Some base) (with_write (Some places.Res) (Some m.cell)
@@ -172,8 +172,8 @@ module _ (c : Contents) (a : AbstractState) (f : FitState c a) where
         fit = (says (reg-fit rs1) tt, (says m.untagged tt, (says fits tt, reg-fits (rd == 0) rd (content_at c place) word fits)));
       }
 
-  abbrev store_begun : ℕ → ℕ → ℕ → List Write
-  store_begun rs1 rs2 at =
+  abbrev store_early_writes : ℕ → ℕ → ℕ → List Write
+  store_early_writes rs1 rs2 at =
       record { to = latches.PortA; value = rs1; flow = Moved Rs1 }
       ∷ record { to = latches.PortB; value = rs2; flow = Moved Rs2 }
       ∷ record { to = latches.Res; value = at; flow = Mixed (Rs1 ∷ []) }
@@ -191,12 +191,12 @@ module _ (c : Contents) (a : AbstractState) (f : FitState c a) where
       let word = abstract_cell_at a place in
       let ao : AbstractOperands = operands_of a instr (Some word) in
       let m = mixed-untagged base at is.untagged in
-      let row : List Write = store_begun (stand_in base) (stand_in new) at ++ record { to = latches.Store; value = stand_in new; flow = Moved Rs2 }
+      let row : List Write = store_early_writes (stand_in base) (stand_in new) at ++ record { to = latches.Store; value = stand_in new; flow = Moved Rs2 }
       ∷ record { to = latches.Mem (word_address at); value = stand_in new; flow = Moved Rs2 } ∷ [] in
       record {
         writes = goes places.PortA base ∷ goes places.PortB new ∷ goes places.Res m.cell ∷ goes places.Store new ∷ goes place new ∷ [];
         effect = ap (λ o. by_word a instr (word_at_place o)) is.found
-            ∙ goes-true ao (at % 4 == 0) row (store_begun (stand_in base) (stand_in new) at) 4 6 is.aligned
+            ∙ goes-true ao (at % 4 == 0) row (store_early_writes (stand_in base) (stand_in new) at) 4 6 is.aligned
             ∙ ap (λ o. with_write (Some places.PortA) (Some base) (with_write (Some places.PortB) (Some new) (with_write (Some places.Res) o
             (with_write (Some places.Store) (Some new)
             (with_write (place_of stand_in_bases (latches.Mem (word_address at))) (Some new) (Some [])))))) m.is

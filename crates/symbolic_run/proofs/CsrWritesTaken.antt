@@ -113,10 +113,10 @@ module _ (s : Valuation) (number base : ℕ) (p : PathState) (h : HartState) (hi
       subst (Leaves value csrs) (sym is) (write-bound 0x3b3 3 value csrs refl refl refl)
 
   -- the effect of such a write on a CSR that isn't mscratch
-  effect-is : (csr old value : ℕ) (begun : List Write) → is_mscratch csr ≡ false
-      → csr_effect begun 0 csr h.pc old true value (Moved Rs1)
-      ≡ record { writes = begun ++ [] ++ [] ++ []; csr = Some (record { csr = csr; value = value; flow = Moved Rs1 }); next = Goes (low_word (h.pc + 4)) }
-  effect-is csr old value begun other = rw other refl
+  effect-is : (csr old value : ℕ) (early_writes : List Write) → is_mscratch csr ≡ false
+      → csr_effect early_writes 0 csr h.pc old true value (Moved Rs1)
+      ≡ record { writes = early_writes ++ [] ++ [] ++ []; csr = Some (record { csr = csr; value = value; flow = Moved Rs1 }); next = Goes (low_word (h.pc + 4)) }
+  effect-is csr old value early_writes other = rw other refl
 
   -- a write of such a CSR, from a register whose number is known
   write-taken : (rs1 csr value : ℕ) (csrs : CsrFile) → hart_cell h (places.Reg rs1) ≡ public value

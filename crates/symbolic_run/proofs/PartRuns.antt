@@ -66,7 +66,7 @@ pub record IsStepOfPart (code : List ℕ) (h : HartState) (a : HartAndProbes) : 
 
 next-by : (code : List ℕ) (h : HartState) (a : HartAndProbes) (step : StepResult) → is_at_port code h ≡ false → hart_step code h ≡ step → next_word h.pc step ≡ Some a
     → IsStepOfPart code h a
-next-by code h a (Wants call begun rd next) port is e = absurd (cc e)
+next-by code h a (Wants call early_writes rd next) port is e = absurd (cc e)
 next-by code h a Wedged port is e = absurd (cc e)
 next-by code h a (Steps g probes did) port is e = by-test (g.pc == h.pc + 4) refl e
   where

@@ -62,7 +62,7 @@ module _ (s : Valuation) (number base : ℕ) (p : PathState) (h : HartState) (ok
       let instr : Instr = Load loads.W rd 0 imm in
       let at : ℕ = address 0 imm in
       let o : OperandCells = operand_cells h instr (Some cell) blank in
-      let begun : List Write = port_a (operand_values o) ++ to latches.Res at (Mixed (Rs1 ∷ [])) in
+      let early_writes : List Write = port_a (operand_values o) ++ to latches.Res at (Mixed (Rs1 ∷ [])) in
       let slot = ok.slot in
       let same = says.slot in
       let below : p.held.slot < 8 = omega (arith, slot, same) in
@@ -71,7 +71,7 @@ module _ (s : Valuation) (number base : ℕ) (p : PathState) (h : HartState) (ok
       let finds = ap (λ given. by_reach h instr (load_by_port given)) answer in
       let even = eq-eqb _ _ (port_is_aligned at port found) in
       let goes = ap (λ (e : Effect). after_machine_effect h o side e)
-      (cond-true (at % 4 == 0) (load_word loads.W rd h.pc at begun (Some cell.value)) (does begun (Raises 4)) even) in
+      (cond-true (at % 4 == 0) (load_word loads.W rd h.pc at early_writes (Some cell.value)) (does early_writes (Raises 4)) even) in
       let lands = ap (λ (pc : ℕ). after_machine_writes side pc (after_writes (load_cells h cell rd imm (rd == 0)) h))
       (next-address base p.index h.pc high few says.pc) in
       record {

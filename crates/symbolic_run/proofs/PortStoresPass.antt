@@ -49,7 +49,7 @@ store-passes s number base p h ok high few says rs2 imm port side held condition
     let cell : Cell = hart_cell h (places.Reg rs2) in
     let context : ContextState = record p.held { words = held_words h.held } in
     let o : OperandCells = operand_cells h instr (Some cell) blank in
-    let begun : List Write = ports (operand_values o) ++ to latches.Res at (Mixed (Rs1 ∷ [])) in
+    let early_writes : List Write = ports (operand_values o) ++ to latches.Res at (Mixed (Rs1 ∷ [])) in
     let slot = ok.slot in
     let same = says.slot in
     let below : p.held.slot < 8 = omega (arith, slot, same) in
@@ -60,7 +60,7 @@ store-passes s number base p h ok high few says rs2 imm port side held condition
     let finds = ap (λ given. by_reach h instr (store_by_port cell given)) answer in
     let even = eq-eqb _ _ (port_is_aligned at port found) in
     let goes = ap (λ (e : Effect). after_machine_effect h o side e)
-    (cond-true (at % 4 == 0) (store_word stores.W cell.value h.pc at begun (Some cell.value)) (does begun (Raises 6)) even) in
+    (cond-true (at % 4 == 0) (store_word stores.W cell.value h.pc at early_writes (Some cell.value)) (does early_writes (Raises 6)) even) in
     let drops = ap (λ place. after_machine_writes side (low_word (h.pc + 4)) (after_writes (store_cells cell at (placed place cell [])) h)) nowhere in
     let lands = ap (λ (pc : ℕ). after_machine_writes side pc (after_writes (store_cells cell at []) h)) (next-address base p.index h.pc high few says.pc) in
     record {

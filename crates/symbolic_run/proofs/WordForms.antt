@@ -40,23 +40,23 @@ goes-on h o true ws us pc cause e = refl
 goes-on h o false ws us pc cause e = absurd (cc e)
 
 -- the writes before the access, and the rows of a load and of a store
-abbrev load_begun : ℕ → ℕ → List Write
-load_begun rs1 at =
+abbrev load_early_writes : ℕ → ℕ → List Write
+load_early_writes rs1 at =
     record { to = latches.PortA; value = rs1; flow = Moved Rs1 } ∷ record { to = latches.Res; value = at; flow = Mixed (Rs1 ∷ []) } ∷ []
 
-abbrev store_begun : ℕ → ℕ → ℕ → List Write
-store_begun rs1 rs2 at =
+abbrev store_early_writes : ℕ → ℕ → ℕ → List Write
+store_early_writes rs1 rs2 at =
     record { to = latches.PortA; value = rs1; flow = Moved Rs1 }
     ∷ record { to = latches.PortB; value = rs2; flow = Moved Rs2 }
     ∷ record { to = latches.Res; value = at; flow = Mixed (Rs1 ∷ []) }
     ∷ []
 
 abbrev load_row : ℕ → ℕ → ℕ → ℕ → List Write
-load_row rd rs1 at word = load_begun rs1 at ++ record { to = latches.Load; value = word; flow = Moved Word } ∷ to_reg rd word (Moved Word)
+load_row rd rs1 at word = load_early_writes rs1 at ++ record { to = latches.Load; value = word; flow = Moved Word } ∷ to_reg rd word (Moved Word)
 
 abbrev store_row : ℕ → ℕ → ℕ → List Write
 store_row rs1 rs2 at =
-    store_begun rs1 rs2 at
+    store_early_writes rs1 rs2 at
     ++ record { to = latches.Store; value = rs2; flow = Moved Rs2 }
     ∷ record { to = latches.Mem (word_address at); value = rs2; flow = Moved Rs2 }
     ∷ []
@@ -80,7 +80,7 @@ module _ (s : Valuation) (a : AbstractState) (h : HartState) (d : IsDenotedBy s 
   follow-load rd rs1 imm place all r e = record {
     writes = cell_writes bases tag row;
     denote = rows-denote s ao bases tag row stand_in_row all agree p.1;
-    step = found ∙ goes-on h cells (at % 4 == 0) row (load_begun c.value at) (low_word (h.pc + 4)) 4 is_aligned;
+    step = found ∙ goes-on h cells (at % 4 == 0) row (load_early_writes c.value at) (low_word (h.pc + 4)) 4 is_aligned;
   }
     where
       instr : Instr
@@ -117,7 +117,7 @@ module _ (s : Valuation) (a : AbstractState) (h : HartState) (d : IsDenotedBy s 
       stand_in_row = load_row rd (stand_in (reg_cell a rs1)) at₂ (stand_in (abstract_cell_at a place))
 
       p : ((at₂ % 4 == 0) ≡ true) × (abstract_writes ao stand_in_row ≡ Some all)
-      p = goes-abstract ao (at₂ % 4 == 0) stand_in_row (load_begun (stand_in (reg_cell a rs1)) at₂) 4 4 all e
+      p = goes-abstract ao (at₂ % 4 == 0) stand_in_row (load_early_writes (stand_in (reg_cell a rs1)) at₂) 4 4 all e
 
       is_aligned : (at % 4 == 0) ≡ true
       is_aligned = eq-eqb (at % 4) 0 (r.aligned (eqb-true (at₂ % 4) 0 p.0))
@@ -147,7 +147,7 @@ module _ (s : Valuation) (a : AbstractState) (h : HartState) (d : IsDenotedBy s 
   follow-store rs2 rs1 imm place all r e = record {
     writes = cell_writes bases tag row;
     denote = rows-denote s ao bases tag row stand_in_row all agree p.1;
-    step = found ∙ goes-on h cells (at % 4 == 0) row (store_begun c.value k.value at) (low_word (h.pc + 4)) 6 is_aligned;
+    step = found ∙ goes-on h cells (at % 4 == 0) row (store_early_writes c.value k.value at) (low_word (h.pc + 4)) 6 is_aligned;
   }
     where
       instr : Instr
@@ -184,7 +184,7 @@ module _ (s : Valuation) (a : AbstractState) (h : HartState) (d : IsDenotedBy s 
       stand_in_row = store_row (stand_in (reg_cell a rs1)) (stand_in (reg_cell a rs2)) at₂
 
       p : ((at₂ % 4 == 0) ≡ true) × (abstract_writes ao stand_in_row ≡ Some all)
-      p = goes-abstract ao (at₂ % 4 == 0) stand_in_row (store_begun (stand_in (reg_cell a rs1)) (stand_in (reg_cell a rs2)) at₂) 4 6 all e
+      p = goes-abstract ao (at₂ % 4 == 0) stand_in_row (store_early_writes (stand_in (reg_cell a rs1)) (stand_in (reg_cell a rs2)) at₂) 4 6 all e
 
       is_aligned : (at % 4 == 0) ≡ true
       is_aligned = eq-eqb (at % 4) 0 (r.aligned (eqb-true (at₂ % 4) 0 p.0))
