@@ -59,8 +59,8 @@ module _ (T : Task) where
   store_own : (kind : StoreKind) (value pc at : ℕ) (a b c : ℕ) (values : Latch → ℕ) → T.data_at % 4 ≡ 0
       → AllOwn T (store_word kind value pc at (to latches.PortA a (Moved Rs1) ++ to latches.PortB b (Moved Rs2) ++ to latches.Res c (Mixed (Rs1 ∷ []))) (data_word_at T values at)).writes
   store_own kind value pc at a b c values aligned =
-      let begun : List Write = to latches.PortA a (Moved Rs1) ++ to latches.PortB b (Moved Rs2) ++ to latches.Res c (Mixed (Rs1 ∷ [])) in
-      cond_both (is_data_address T at) (Some (values (latches.Mem (word_address at)))) None (λ (word : Option ℕ). AllOwn T (store_word kind value pc at begun word).writes)
+      let early_writes : List Write = to latches.PortA a (Moved Rs1) ++ to latches.PortB b (Moved Rs2) ++ to latches.Res c (Mixed (Rs1 ∷ [])) in
+      cond_both (is_data_address T at) (Some (values (latches.Mem (word_address at)))) None (λ (word : Option ℕ). AllOwn T (store_word kind value pc at early_writes word).writes)
       (λ inside. (tt, (tt, (tt, (tt, (word_inside T at aligned inside, tt)))))) (λ outside. (tt, (tt, (tt, tt))))
 
   pub row_own : (instr : Instr) (pc : ℕ) (values : Latch → ℕ) → T.data_at % 4 ≡ 0 → is_privileged instr ≡ false → AllOwn T (effect_of instr pc (operands_of T values instr)).writes

@@ -4,5 +4,6 @@ pub mod LatchValues
 pub mod StandsFor
 pub mod RunPosition
 pub mod IsAt
+pub mod Marks
 pub mod Whole
 pub mod InstrForms

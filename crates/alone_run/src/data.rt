@@ -32,6 +32,16 @@ impl Data {
         })
     }
 
+    /// The same words in memory of their own.
+    pub(crate) fn copy(&self, alloc: Global) -> Result<Data, AllocError>
+        ensures same { IfOk result (λ d. d ≡ self.now) }
+    {
+        Ok(Data {
+            at: self.at,
+            words: Vec::from_slice(alloc, self.words.as_slice())?,
+        })
+    }
+
     /// The word that an address lies in.
     pub(crate) fn get(&self, at: u32) -> Option<u32>
         ensures word { result ≡ data_word self.now at }

@@ -1,6 +1,6 @@
 //! The latches of a machine that runs one task.
 
-ghost use Rattle.std.specs.Prelude.{◌≡◌, ℕ, true};
+ghost use Rattle.std.specs.Prelude.{◌≡◌, ℕ, true, IfOk};
 ghost use Rattle.isa_model.specs.declared.task.Task.{Task};
 ghost use Rattle.isa_model.specs.declared.latch.Latch.{Latch};
 ghost use Rattle.isa_model.specs.Bits.{word_address};
@@ -12,6 +12,7 @@ ghost use Rattle.alone_run.specs.DataWords.{data_word};
 use crate::data::Data;
 use isa_model::{Latch, RegNo};
 use rv_effect::{RegisterWrite, Traced, UnitWrite, Writes};
+use std::alloc::{AllocError, Global};
 
 /// The values of the latches that a task can write: registers, operand ports, result, last loaded and last stored word, the
 /// multiplier's result, data.
@@ -29,6 +30,22 @@ pub(crate) struct Latches {
 
 impl Latches {
     ghost use Rattle.alone_run.specs.LatchValues.{Holds, IsOwnUnit, latch_value};
+
+    /// The same values in memory of their own.
+    pub(crate) fn copy(&self, alloc: Global) -> Result<Latches, AllocError>
+        ensures same { IfOk result (λ latches. latches ≡ self.now) }
+    {
+        Ok(Latches {
+            regs: self.regs,
+            port_a: self.port_a,
+            port_b: self.port_b,
+            res: self.res,
+            load: self.load,
+            store: self.store,
+            mul: self.mul,
+            memory: self.memory.copy(alloc)?,
+        })
+    }
 
     /// The value of a latch, and 0 for one that isn't here.
     pub(crate) fn value(&self, latch: Latch) -> u32

@@ -6,10 +6,12 @@ mod data;
 mod executing;
 mod latches;
 mod machine;
+pub mod marks;
 mod operands;
 mod output;
 pub mod running;
 mod services;
 
 pub use isa_model::{Control, Deed, End, EndKind, Latch, Task, Words};
+pub use marks::Mark;
 pub use running::{Alone, Ended, run_alone};

@@ -2,6 +2,7 @@
 
 ghost use Rattle.std.specs.Prelude.{◌≡◌, ◌++◌, ◌∷◌, [], length, nat_lt, IfOk, if◌then◌else◌};
 
+use isa_model::Words;
 use std::alloc::{AllocError, Global};
 use std::marker::Model;
 
@@ -34,6 +35,15 @@ impl Output {
         })
     }
 
+    /// These words, and the room for the maximum.
+    pub(crate) fn with_words(alloc: Global, max: u32, words: &[u32]) -> Result<Output, AllocError>
+        ensures words { IfOk result (λ o. o ≡ record { words = words.now; max = max }) }
+    {
+        let mut room = Vec::with_capacity(alloc, max as usize)?;
+        room.extend_from_slice(words)?;
+        Ok(Output { words: room, max })
+    }
+
     /// Appends a word. It answers false, with nothing changed, exactly where the maximum is reached.
     pub(crate) fn append(&mut self, word: u32) -> bool
         ensures room { result ≡ nat_lt (length self.old.words) self.old.max }
@@ -46,6 +56,13 @@ impl Output {
         } else {
             false
         }
+    }
+
+    /// The words in memory of their own, with no room for more.
+    pub(crate) fn words(&self, alloc: Global) -> Result<Words, AllocError>
+        ensures words { IfOk result (λ words. words ≡ self.now.words) }
+    {
+        Ok(Words::new(Vec::from_slice(alloc, self.words.as_slice())?))
     }
 
     /// The words.

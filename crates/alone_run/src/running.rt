@@ -9,12 +9,14 @@ ghost use Rattle.isa_model.specs.Control.{control_at};
 ghost use Rattle.alone_run.specs.LatchValues.{Holds, has_latch};
 ghost use Rattle.alone_run.specs.StandsFor.{StandsFor};
 ghost use Rattle.alone_run.specs.IsAt.{IsAt};
+ghost use Rattle.alone_run.specs.Marks.{IsMarkOf};
 ghost use Rattle.alone_run.specs.Whole.{IsEndOf};
 
 use crate::data::Data;
 use crate::executing::execute;
 use crate::latches::Latches;
 use crate::machine::Machine;
+use crate::marks::Mark;
 use crate::output::Output;
 use isa_model::{Control, End, Latch, Task, Words};
 use std::alloc::{AllocError, Global};
@@ -109,6 +111,25 @@ impl Alone {
             task: task.copy(alloc)?,
             machine,
             count: 0,
+        })
+    }
+
+    /// A mark of this run after the instructions so far. Errors: where memory ran out.
+    pub fn mark(&self, alloc: Global) -> Result<Mark, AllocError>
+        ensures mark { IfOk result (λ m. IsMarkOf self.now.task self.now.count m) }
+    {
+        Mark::of(alloc, &self.machine, self.count)
+    }
+
+    /// A task after as many instructions as a mark of its run says. It takes the room of all output. Errors: where memory ran out.
+    pub fn resume(alloc: Global, task: &Task, mark: &Mark) -> Result<Alone, AllocError>
+        requires mark { IsMarkOf task.now mark.now.count mark.now }
+        ensures resumed { IfOk result (λ a. a ≡ record { task = task.now; count = mark.now.count }) }
+    {
+        Ok(Alone {
+            task: task.copy(alloc)?,
+            machine: mark.machine(alloc, task.out_max)?,
+            count: mark.count,
         })
     }
 
