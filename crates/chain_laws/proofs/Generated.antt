@@ -6,7 +6,7 @@ use Rattle.std.proofs.lemmas.List.Elements.{All-from_recursion}
 use Rattle.std.proofs.lemmas.List.Sums.{sum_by-cons, count_by-le-length}
 use Rattle.core_model.specs.declared.loaded.Loaded.{Loaded}
 use Rattle.core_model.specs.declared.world.World.{World}
-use Rattle.core_model.specs.Limits.{max_quanta, max_tape_words}
+use Rattle.isa_model.specs.Limits.{max_quanta, max_tape_words}
 use Rattle.rand_pcg.specs.Lcg.{Lcg}
 use Rattle.bundle_text.specs.declared.bundle.TaskText.{TaskText}
 use Rattle.bundle_text.specs.declared.bundle.PlanText.{PlanText}

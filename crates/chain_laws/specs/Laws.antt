@@ -4,7 +4,7 @@ use Rattle.isa_model.specs.declared.ends.End.TheVariants.{Exited}
 use Rattle.isa_model.specs.declared.task.Task.{Task}
 use Rattle.isa_model.specs.Alone.{last_of}
 use Rattle.core_model.specs.declared.loaded.Loaded.{Loaded}
-use Rattle.core_model.specs.Limits.{max_harts, max_tasks}
+use Rattle.isa_model.specs.Limits.{max_harts, max_tasks}
 use Rattle.bundle_text.specs.declared.bundle.Code.TheVariants.{Text}
 use Rattle.rv_loader.specs.Coding.{words_of}
 use Rattle.rv_loader.specs.Loading.{loading_of}

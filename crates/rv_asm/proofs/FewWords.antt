@@ -11,7 +11,8 @@ use Rattle.rv_asm.specs.declared.assembling.Assembled.{Assembled}
 use Rattle.rv_asm.specs.declared.fault.AsmFault.{AsmFault}
 use Rattle.rv_asm.specs.declared.listing.Placed.{Placed}
 use Rattle.rv_asm.specs.Listing.{word_count, placed_from, placed_lines, place_of}
-use Rattle.rv_asm.specs.Refusals.{max_words, kind_in_reading, refusal_or, refusal_in_reading}
+use Rattle.isa_model.specs.Limits.{max_code_words}
+use Rattle.rv_asm.specs.Refusals.{kind_in_reading, refusal_or, refusal_in_reading}
 use Rattle.rv_asm.specs.Assembly.{words_of_item, words_of_line, on_line, words_then, linked, read_then, assembly, Assembles}
 use Rattle.rv_asm.proofs.Reading.{room_of_line}
 
@@ -33,8 +34,8 @@ counted find at (Err kind) = tt
 
 -- the words of lines from this place on are so few that there is room for them
 room_then : (place count number : ℕ) (words : Result (List ℕ) AsmKind) (later : Result (List (ℕ × ℕ)) AsmFault)
-    → IfOk words (λ ws. length ws ≡ count) → IfOk later (λ ls. place + count + length ls ≤ max_words)
-    → IfOk (words_then number words later) (λ ws. place + length ws ≤ max_words)
+    → IfOk words (λ ws. length ws ≡ count) → IfOk later (λ ls. place + count + length ls ≤ max_code_words)
+    → IfOk (words_then number words later) (λ ws. place + length ws ≤ max_code_words)
 room_then place count number (Err kind) later some rest = tt
 room_then place count number (Ok words) (Err fault) some rest = tt
 room_then place count number (Ok words) (Ok later) some rest =
@@ -46,8 +47,8 @@ none_first : (number : ℕ) (kind : Option AsmKind) (later : Option AsmFault) �
 none_first number None later accepted = (refl, accepted)
 none_first number (Some kind) later accepted = absurd (cc)
 
-linked_room : (find : List ℕ → Option ℕ) (seen : List (List ℕ)) (number place : ℕ) (lines : List Line) → place ≤ max_words
-    → refusal_in_reading seen (placed_from number place lines) ≡ None → IfOk (linked find (placed_from number place lines)) (λ words. place + length words ≤ max_words)
+linked_room : (find : List ℕ → Option ℕ) (seen : List (List ℕ)) (number place : ℕ) (lines : List Line) → place ≤ max_code_words
+    → refusal_in_reading seen (placed_from number place lines) ≡ None → IfOk (linked find (placed_from number place lines)) (λ words. place + length words ≤ max_code_words)
 linked_room find seen number place [] room accepted = omega arith
 linked_room find seen number place (line ∷ lines) room accepted =
     let p : Placed = record { number = number; place = place; line = line } in
@@ -57,24 +58,24 @@ linked_room find seen number place (line ∷ lines) room accepted =
     room_then place count number (words_of_line find p) (linked find rest) (counted find place line.item)
     (linked_room find (seen ++ line.labels) (number + 1) (place + count) lines (room_of_line seen p none.0) none.1)
 
-read_room : (refusal : Option AsmFault) (words : Result (List (ℕ × ℕ)) AsmFault) → (refusal ≡ None → IfOk words (λ ws. 0 + length ws ≤ max_words))
-    → IfOk (read_then refusal words) (λ a. (length a.words ≤ max_words) × (length a.lines ≡ length a.words))
+read_room : (refusal : Option AsmFault) (words : Result (List (ℕ × ℕ)) AsmFault) → (refusal ≡ None → IfOk words (λ ws. 0 + length ws ≤ max_code_words))
+    → IfOk (read_then refusal words) (λ a. (length a.words ≤ max_code_words) × (length a.lines ≡ length a.words))
 read_room (Some fault) words room = tt
 read_room None (Err fault) room = tt
 read_room None (Ok words) room =
     let all_words = length-map words (λ (w : ℕ × ℕ). w.0) in
     let all_lines = length-map words (λ (w : ℕ × ℕ). w.1) in
-    let few : 0 + length words ≤ max_words = room refl in
+    let few : 0 + length words ≤ max_code_words = room refl in
     (omega arith, all_lines ∙ sym all_words)
 
-assembly_room : (source : List (List ℕ)) (first_line : ℕ) → IfOk (assembly source first_line) (λ a. (length a.words ≤ max_words) × (length a.lines ≡ length a.words))
+assembly_room : (source : List (List ℕ)) (first_line : ℕ) → IfOk (assembly source first_line) (λ a. (length a.words ≤ max_code_words) × (length a.lines ≡ length a.words))
 assembly_room source first_line =
     let placed = placed_lines source first_line in
     read_room (refusal_in_reading [] placed) (linked (place_of placed) placed) (linked_room (place_of placed) [] first_line 0 (map line_of source) (omega arith))
 
 -- what a listing assembles to has at most so many words, each with a line
 pub few_words : (source : List (List ℕ)) (first_line : ℕ) (assembled : Assembled) → Assembles source first_line assembled
-    → (length assembled.words ≤ max_words) × (length assembled.lines ≡ length assembled.words)
+    → (length assembled.words ≤ max_code_words) × (length assembled.lines ≡ length assembled.words)
 few_words source first_line assembled assembles =
-    let Few : Result Assembled AsmFault → Type 0 = λ r. IfOk r (λ a. (length a.words ≤ max_words) × (length a.lines ≡ length a.words)) in
+    let Few : Result Assembled AsmFault → Type 0 = λ r. IfOk r (λ a. (length a.words ≤ max_code_words) × (length a.lines ≡ length a.words)) in
     subst Few assembles (assembly_room source first_line)

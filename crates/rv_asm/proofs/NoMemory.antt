@@ -16,7 +16,8 @@ use Rattle.asm_line.specs.Pieces.{register_part, offset_part}
 use Rattle.rv_asm.specs.declared.fault.AsmFault.{AsmFault}
 use Rattle.rv_asm.specs.declared.listing.Placed.{Placed}
 use Rattle.rv_asm.specs.Listing.{word_count, placed_from}
-use Rattle.rv_asm.specs.Refusals.{max_words, repeats, kind_of_item, kind_in_reading, refusal_or, refusal_in_reading}
+use Rattle.isa_model.specs.Limits.{max_code_words}
+use Rattle.rv_asm.specs.Refusals.{repeats, kind_of_item, kind_in_reading, refusal_or, refusal_in_reading}
 use Rattle.rv_asm.specs.Assembly.{distance, distance_to, words_of_item, words_of_line, words_then, linked}
 
 -- what isn't refused for want of memory
@@ -191,7 +192,7 @@ linked_of_line find number place (text ∷ listing) =
 
 kind_of_item_of_text : (place : ℕ) (item : Result Item AsmKind) → IsOfText item → IfSome (kind_of_item place item) (λ kind. kind ≢ Memory)
 kind_of_item_of_text place (Err kind) item = item.other kind refl
-kind_of_item_of_text place (Ok what) item = by (nat_lt max_words (place + word_count (Ok what)))
+kind_of_item_of_text place (Ok what) item = by (nat_lt max_code_words (place + word_count (Ok what)))
   where
     by : (b : Bool) → IfSome (if b then Some TooManyWords else None) (λ kind. kind ≢ Memory)
     by true = λ e. cc

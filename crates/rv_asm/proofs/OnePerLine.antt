@@ -14,7 +14,8 @@ use Rattle.asm_line.specs.LineForm.{line_of}
 use Rattle.asm_line.proofs.Forms.{reads_instr, reads_word}
 use Rattle.rv_asm.specs.declared.listing.Placed.{Placed}
 use Rattle.rv_asm.specs.Listing.{placed_from, place_of}
-use Rattle.rv_asm.specs.Refusals.{max_words, refusal_or, refusal_in_reading}
+use Rattle.isa_model.specs.Limits.{max_code_words}
+use Rattle.rv_asm.specs.Refusals.{refusal_or, refusal_in_reading}
 use Rattle.rv_asm.specs.Assembly.{linked, words_then, read_then, Assembles}
 use Rattle.rv_asm.specs.Disassembly.{line_text, line_of_word, lines_of_words, one_per_line}
 
@@ -42,11 +43,11 @@ lines_of-words (word ∷ words) each = λ i. line_of-word word each.0 i ∷ line
 abbrev plain_lines : ℕ → ℕ → List ℕ → List Placed
 plain_lines number place words = placed_from number place (map plain_line words)
 
-none_refused : (seen : List (List ℕ)) (number place : ℕ) (words : List ℕ) → place + length words ≤ max_words → refusal_in_reading seen (plain_lines number place words) ≡ None
+none_refused : (seen : List (List ℕ)) (number place : ℕ) (words : List ℕ) → place + length words ≤ max_code_words → refusal_in_reading seen (plain_lines number place words) ≡ None
 none_refused seen number place [] room = refl
 none_refused seen number place (word ∷ words) room =
     let later = refusal_in_reading (seen ++ []) (plain_lines (number + 1) (place + 1) words) in
-    ap (λ over. refusal_or number (if over then Some TooManyWords else None) later) (le-ltb max_words (place + 1) (omega arith))
+    ap (λ over. refusal_or number (if over then Some TooManyWords else None) later) (le-ltb max_code_words (place + 1) (omega arith))
     ∙ none_refused (seen ++ []) (number + 1) (place + 1) words (omega arith)
 
 -- words with the numbers of their lines
@@ -66,7 +67,7 @@ lines-numbered : (number : ℕ) (words : List ℕ) → map (λ w. w.1) (numbered
 lines-numbered number [] = refl
 lines-numbered number (word ∷ words) = ap (λ ns. number ∷ ns) (lines-numbered (number + 1) words)
 
-pub lines_assemble : (words : List ℕ) → AllByRecursion (λ word. word < 2 ^ 32) words → length words ≤ max_words
+pub lines_assemble : (words : List ℕ) → AllByRecursion (λ word. word < 2 ^ 32) words → length words ≤ max_code_words
     → (first_line : ℕ) → Assembles (lines_of_words words) first_line (one_per_line words first_line)
 lines_assemble words each few first_line =
     let placed = plain_lines first_line 0 words in

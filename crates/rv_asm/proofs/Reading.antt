@@ -9,7 +9,8 @@ use Rattle.asm_line.specs.declared.line.Item.{Item}
 use Rattle.asm_line.specs.LineForm.{line_of}
 use Rattle.rv_asm.specs.declared.listing.Placed.{Placed}
 use Rattle.rv_asm.specs.Listing.{texts, word_count, placed_from}
-use Rattle.rv_asm.specs.Refusals.{max_words, repeats, kind_of_item, kind_in_reading, refusal_or, refusal_in_reading}
+use Rattle.isa_model.specs.Limits.{max_code_words}
+use Rattle.rv_asm.specs.Refusals.{repeats, kind_of_item, kind_in_reading, refusal_or, refusal_in_reading}
 use Rattle.rv_asm.specs.Places.{names, at_place, label_places}
 use Rattle.rv_asm.proofs.Labels.{names-append-at_place, label_places-push}
 
@@ -21,9 +22,9 @@ none_over : (limit count : ℕ) → (if nat_lt limit count then Some TooManyWord
 none_over limit count accepted = grind (arith, nat_tests, no_refusal)
 
 -- an accepted item has room
-pub room_of_item : (place : ℕ) (item : Result Item AsmKind) → kind_of_item place item ≡ None → place + word_count item ≤ max_words
+pub room_of_item : (place : ℕ) (item : Result Item AsmKind) → kind_of_item place item ≡ None → place + word_count item ≤ max_code_words
 room_of_item place (Err kind) accepted = absurd (no_refusal accepted)
-room_of_item place (Ok item) accepted = none_over max_words (place + word_count (Ok item)) accepted
+room_of_item place (Ok item) accepted = none_over max_code_words (place + word_count (Ok item)) accepted
 
 -- an item is refused where nothing else is
 none_either : (again : Bool) (kind : Option AsmKind) → (if again then Some DuplicateLabel else kind) ≡ None → kind ≡ None
@@ -35,7 +36,7 @@ item_of_line : (seen : List (List ℕ)) (p : Placed) → kind_in_reading seen p 
 item_of_line seen p accepted = none_either (repeats seen p.line.labels) (kind_of_item p.place p.line.item) accepted
 
 -- and so has that of an accepted line
-pub room_of_line : (seen : List (List ℕ)) (p : Placed) → kind_in_reading seen p ≡ None → p.place + word_count p.line.item ≤ max_words
+pub room_of_line : (seen : List (List ℕ)) (p : Placed) → kind_in_reading seen p ≡ None → p.place + word_count p.line.item ≤ max_code_words
 room_of_line seen p accepted = room_of_item p.place p.line.item (item_of_line seen p accepted)
 
 -- the lines from one on, whose number and place these are
@@ -47,7 +48,7 @@ pub record AreRead (source : List (Vec ℕ Global)) (first_line : ℕ) (listing 
   pub lines : lines_from first_line 0 source ≡ listing ++ lines_from number place left
   pub refusal : refusal_in_reading [] (lines_from first_line 0 source) ≡ refusal_in_reading (names known) (lines_from number place left)
   pub places : known ≡ label_places listing
-  pub room : place ≤ max_words
+  pub room : place ≤ max_code_words
 
 -- a line that is read next
 abbrev pub next_placed : ℕ → ℕ → Vec ℕ Global → Placed

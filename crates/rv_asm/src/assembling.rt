@@ -3,7 +3,7 @@
 ghost use Rattle.std.specs.Prelude.{◌≡◌, ◌≢◌, ◌+◌, ◌<◌, ◌≤◌, ◌^◌, length, IfOk, IfErr};
 ghost use Rattle.asm_line.specs.declared.line.AsmKind.TheVariants.{Memory};
 ghost use Rattle.rv_asm.specs.Listing.{texts};
-ghost use Rattle.rv_asm.specs.Refusals.{max_words};
+ghost use Rattle.isa_model.specs.Limits.{max_code_words};
 ghost use Rattle.rv_asm.specs.Assembly.{Assembles, IsRefusedAt};
 
 use crate::fault::AsmFault;
@@ -30,7 +30,7 @@ pub struct Assembled {
 pub fn assemble(alloc: Global, lines: &[Vec<u8>], first_line: u32) -> Result<Assembled, AsmFault>
     requires numbers { first_line + length lines.now < 2 ^ 32 }
     ensures assembled { IfOk result (Assembles (texts lines.now) first_line) }
-    ensures few { IfOk result (λ assembled. length assembled.words ≤ max_words) }
+    ensures few { IfOk result (λ assembled. length assembled.words ≤ max_code_words) }
     ensures line_each { IfOk result (λ assembled. length assembled.lines ≡ length assembled.words) }
     ensures refused { IfErr result (λ fault. fault.kind ≢ Memory → IsRefusedAt (texts lines.now) first_line fault) }
     ensures memory { IfErr result (λ fault. fault.kind ≡ Memory → fault.line ≡ 0) }

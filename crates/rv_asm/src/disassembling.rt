@@ -2,7 +2,7 @@
 
 ghost use Rattle.std.specs.Prelude.{◌≡◌, ℕ, ◌≤◌, ◌++◌, length, IfOk, OnOk, OnErr};
 ghost use Rattle.std.specs.Str.Lines.{lines};
-ghost use Rattle.rv_asm.specs.Refusals.{max_words};
+ghost use Rattle.isa_model.specs.Limits.{max_code_words};
 ghost use Rattle.rv_asm.specs.Assembly.{Assembles};
 ghost use Rattle.rv_asm.specs.Disassembly.{line_of_word, lines_of_words, ended, listing_of, one_per_line};
 
@@ -36,7 +36,7 @@ fn add_line(word: u32, text: &mut Vec<u8>) -> Result<(), AllocError>
 pub fn disassemble(alloc: Global, words: &[u32]) -> Result<Vec<u8>, AllocError>
     ensures listing { IfOk result (λ text. text.items ≡ listing_of words.now) }
     ensures one_line_each { IfOk result (λ text. lines text.items ≡ lines_of_words words.now) }
-    ensures assembles { IfOk result (λ text. length words.now ≤ max_words → (first_line : ℕ) → Assembles (lines text.items) first_line (one_per_line words.now first_line)) }
+    ensures assembles { IfOk result (λ text. length words.now ≤ max_code_words → (first_line : ℕ) → Assembles (lines text.items) first_line (one_per_line words.now first_line)) }
 {
     let mut text = Vec::new(alloc);
     for word in words {

@@ -3,7 +3,8 @@
 ghost use Rattle.std.specs.Prelude.{◌≡◌, ℕ, ◌+◌, ◌<◌, ◌≤◌, ◌^◌, ◌⊎◌, ◌++◌, ◌∷◌, [], length, false, Some, None, IfOk, IfErr, OnOk};
 ghost use Rattle.asm_line.specs.LineForm.{line_of};
 ghost use Rattle.rv_asm.specs.Listing.{texts, word_count, placed_lines};
-ghost use Rattle.rv_asm.specs.Refusals.{max_words, repeats, kind_of_item, kind_in_reading, refusal_in_reading};
+ghost use Rattle.isa_model.specs.Limits.{max_code_words};
+ghost use Rattle.rv_asm.specs.Refusals.{repeats, kind_of_item, kind_in_reading, refusal_in_reading};
 ghost use Rattle.rv_asm.specs.Memory.{memory_fault};
 ghost use Rattle.rv_asm.specs.Places.{names, at_place, label_places};
 
@@ -82,7 +83,7 @@ fn word_count(item: &Result<Item, AsmKind>) -> u32
 
 /// The fault of a line beside its labels.
 fn item_fault(item: &Result<Item, AsmKind>, place: u32) -> Option<AsmKind>
-    requires place { place ≤ max_words }
+    requires place { place ≤ max_code_words }
     ensures value { result ≡ kind_of_item place item.now }
 {
     if let Err(kind) = item {
@@ -122,7 +123,7 @@ fn line_fault(
     place: u32,
     places: &mut Places,
 ) -> Result<Option<AsmKind>, AllocError>
-    requires place { place ≤ max_words }
+    requires place { place ≤ max_code_words }
     ensures value { IfOk result (λ kind. (number : ℕ) → kind ≡ kind_in_reading (names places.old) (record { number = number; place = place; line = line.now })) }
     ensures added { IfOk result (λ kind. kind ≡ None → places.new ≡ places.old ++ at_place place line.now.labels) }
 {
@@ -140,10 +141,10 @@ fn read_placed(
     place: u32,
     places: &mut Places,
 ) -> Result<Placed, AsmFault>
-    requires place { place ≤ max_words }
+    requires place { place ≤ max_code_words }
     ensures line { IfOk result (λ p. p ≡ record { number = number; place = place; line = line_of text.now }) }
     ensures accepted { IfOk result (λ p. kind_in_reading (names places.old) p ≡ None) }
-    ensures room { IfOk result (λ p. place + word_count p.line.item ≤ max_words) }
+    ensures room { IfOk result (λ p. place + word_count p.line.item ≤ max_code_words) }
     ensures added { IfOk result (λ p. places.new ≡ places.old ++ at_place place p.line.labels) }
     ensures refused { IfErr result (λ fault. (fault ≡ memory_fault) ⊎ ((fault.line ≡ number) × (kind_in_reading (names places.old) (record { number = number; place = place; line = line_of text.now }) ≡ Some fault.kind))) }
 {

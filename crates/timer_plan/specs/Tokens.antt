@@ -2,6 +2,7 @@
 -- has a letter before.
 use Rattle.std.specs.Prelude.{◌≡◌, ℕ, ◌<◌, ◌≤◌, ◌⊎◌, List, [], ◌∷◌, ◌++◌, codes}
 use Rattle.std.specs.Str.Parse.{IsNumeral, digits_value}
+use Rattle.isa_model.specs.Limits.{max_harts, max_events}
 use Rattle.core_model.specs.Events.{hart_of}
 use Rattle.core_model.specs.declared.event.Event.{Event}
 use Rattle.core_model.specs.declared.event.Event.TheVariants.{Go, Tick}
@@ -43,10 +44,10 @@ pub record SpellsEventRun (token : List ℕ) (run : EventRun) : Type 0 where
 
 -- a hart is one of 8, and comes at least once and at most 1,048,576 times
 pub record IsInRange (hart times : ℕ) : Type 0 where
-  pub hart_high : hart < 8
+  pub hart_high : hart < max_harts
   pub times_low : 1 ≤ times
-  pub times_high : times ≤ 1048576
+  pub times_high : times ≤ max_events
 
 -- a number of a run is outside its range
 abbrev pub IsOutOfRange : ℕ → ℕ → Type 0
-IsOutOfRange hart times = (8 ≤ hart) ⊎ ((times ≡ 0) ⊎ (1048576 < times))
+IsOutOfRange hart times = (max_harts ≤ hart) ⊎ ((times ≡ 0) ⊎ (max_events < times))
