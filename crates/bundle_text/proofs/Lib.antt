@@ -11,6 +11,7 @@ pub mod PlaceFacts
 pub mod OperandRanges
 pub mod DraftRanges
 pub mod LineLaws
+pub mod TextLaws
 pub mod TokenLaws
 pub mod Decides
 pub mod NumberLaws

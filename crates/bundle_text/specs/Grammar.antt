@@ -2,6 +2,7 @@
 -- lines and comments may stand between any two lines outside code.
 use Rattle.std.specs.Prelude.{◌≡◌, ℕ, ◌+◌, ◌==◌, ◌≤◌, ◌⊎◌, ⊤, Bool, true, false, List, [], ◌∷◌, ◌++◌, length, codes}
 use Rattle.std.specs.List.{AllByRecursion}
+use Rattle.isa_model.specs.Limits.{max_fuel, max_output_words, max_data_words, max_quantum}
 use Rattle.core_model.specs.Events.{hart_of}
 use Rattle.core_model.specs.declared.event.EventRun.{EventRun}
 use Rattle.core_model.specs.declared.event.OrderRun.{OrderRun}
@@ -41,7 +42,7 @@ AreEach {A} Says (token ∷ tokens) items =
 -- nothing, or `quanta Q ..`
 abbrev pub AreQuanta : List (List ℕ) → List ℕ → Type 0
 AreQuanta [] quanta = quanta ≡ []
-AreQuanta (word ∷ tokens) quanta = (word ≡ codes "quanta") × AreEach (IsNumber 0 4096) tokens quanta
+AreQuanta (word ∷ tokens) quanta = (word ≡ codes "quanta") × AreEach (IsNumber 0 max_quantum) tokens quanta
 
 -- `H tail T`, and its quanta
 pub record IsPlan (tokens : List (List ℕ)) (plan : PlanText) : Type 0 where
@@ -50,7 +51,7 @@ pub record IsPlan (tokens : List (List ℕ)) (plan : PlanText) : Type 0 where
   pub quanta : List (List ℕ)
   pub parts : tokens ≡ hart ∷ codes "tail" ∷ tail ∷ quanta
   pub hart_is : IsNumber 0 7 hart plan.hart
-  pub tail_is : IsNumber 1 4096 tail plan.plan.tail
+  pub tail_is : IsNumber 1 max_quantum tail plan.plan.tail
   pub quanta_are : AreQuanta quanta plan.plan.quanta
 
 -- `band B` in a text with bands; else nothing, which is band 0
@@ -65,9 +66,9 @@ pub record IsTaskHead (has_bands : Bool) (tokens : List (List ℕ)) (task : Task
   pub data_len : List ℕ
   pub band : List (List ℕ)
   pub parts : tokens ≡ codes "fuel" ∷ fuel ∷ codes "out" ∷ out_max ∷ codes "data" ∷ data_len ∷ band
-  pub fuel_is : IsNumber 1 100000 fuel task.fuel
-  pub out_max_is : IsNumber 0 4096 out_max task.out_max
-  pub data_len_is : IsNumber 0 1024 data_len task.data_len
+  pub fuel_is : IsNumber 1 max_fuel fuel task.fuel
+  pub out_max_is : IsNumber 0 max_output_words out_max task.out_max
+  pub data_len_is : IsNumber 0 max_data_words data_len task.data_len
   pub band_is : IsBand has_bands band task.band
 
 -- `S W ..`

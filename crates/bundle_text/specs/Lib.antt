@@ -9,3 +9,4 @@ pub mod Answer
 pub mod Range
 pub mod Grammar
 pub mod Text
+pub mod TextLines

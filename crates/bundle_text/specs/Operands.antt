@@ -3,6 +3,7 @@
 use Rattle.std.specs.Prelude.{ℕ, Bool, true, false, ◌==◌, ◌&&◌, List, [], ◌∷◌, Option, Some, None, Result, Ok, Err, length, codes, if◌then◌else◌}
 use Rattle.std.specs.Str.{bytes_eq}
 use Rattle.std.specs.List.{list_any}
+use Rattle.isa_model.specs.Limits.{max_fuel, max_output_words, max_data_words, max_quantum}
 use Rattle.bundle_text.specs.Numbers.{number_in, word_of}
 use Rattle.bundle_text.specs.declared.bundle.BundleKind.{BundleKind}
 use Rattle.bundle_text.specs.declared.bundle.BundleKind.TheVariants.{Operands}
@@ -49,9 +50,9 @@ band_token has_bands ts = None
 abbrev pub limits_of : List ℕ → List ℕ → List ℕ → Option (List ℕ) → Result (ℕ × ℕ × ℕ × ℕ) BundleKind
 limits_of fuel_token out_token data_token None = Err Operands
 limits_of fuel_token out_token data_token (Some band_token) = do
-  fuel ← number_in 1 100000 fuel_token
-  out_max ← number_in 0 4096 out_token
-  data_len ← number_in 0 1024 data_token
+  fuel ← number_in 1 max_fuel fuel_token
+  out_max ← number_in 0 max_output_words out_token
+  data_len ← number_in 0 max_data_words data_token
   band ← number_in 0 1 band_token
   Ok (fuel, out_max, data_len, band)
 
@@ -71,8 +72,8 @@ abbrev pub plan_of : List ℕ → List ℕ → Option (List (List ℕ)) → Resu
 plan_of hart_token tail_token None = Err Operands
 plan_of hart_token tail_token (Some quanta_tokens) = do
   hart ← number_in 0 7 hart_token
-  tail ← number_in 1 4096 tail_token
-  quanta ← each (number_in 0 4096) quanta_tokens
+  tail ← number_in 1 max_quantum tail_token
+  quanta ← each (number_in 0 max_quantum) quanta_tokens
   Ok (record { hart = hart; plan = record { quanta = quanta; tail = tail } })
 
 -- `H tail T`, and `quanta Q ..` or nothing

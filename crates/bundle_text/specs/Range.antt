@@ -1,6 +1,7 @@
 -- The ranges of a bundle's numbers and the lengths of its lists.
 use Rattle.std.specs.Prelude.{◌≡◌, ◌≢◌, ℕ, ◌+◌, ◌<◌, ◌≤◌, ◌^◌, ⊤, true, false, List, [], ◌∷◌, length}
 use Rattle.std.specs.List.{AllByRecursion}
+use Rattle.isa_model.specs.Limits.{max_fuel, max_output_words, max_data_words, max_band, max_quantum, max_events}
 use Rattle.core_model.specs.Events.{hart_of}
 use Rattle.core_model.specs.declared.event.EventRun.{EventRun}
 use Rattle.core_model.specs.declared.event.OrderRun.{OrderRun}
@@ -36,21 +37,21 @@ IsCodeInRange (Text first_line lines) = (first_line + length lines < 2 ^ 32) × 
 
 pub record IsTaskInRange (task : TaskText) : Type 0 where
   pub fuel_low : 1 ≤ task.fuel
-  pub fuel_high : task.fuel ≤ 100000
-  pub out_max : task.out_max ≤ 4096
-  pub data_len : task.data_len ≤ 1024
-  pub band : task.band ≤ 1
+  pub fuel_high : task.fuel ≤ max_fuel
+  pub out_max : task.out_max ≤ max_output_words
+  pub data_len : task.data_len ≤ max_data_words
+  pub band : task.band ≤ max_band
   pub tape : AllByRecursion IsWord task.tape
   pub tape_short : IsShort task.tape
   pub code : IsCodeInRange task.code
 
 abbrev pub IsQuantum : ℕ → Type 0
-IsQuantum n = n ≤ 4096
+IsQuantum n = n ≤ max_quantum
 
 pub record IsPlanInRange (plan : PlanText) : Type 0 where
   pub hart : plan.hart ≤ 7
   pub tail_low : 1 ≤ plan.plan.tail
-  pub tail_high : plan.plan.tail ≤ 4096
+  pub tail_high : plan.plan.tail ≤ max_quantum
   pub quanta : AllByRecursion IsQuantum plan.plan.quanta
   pub quanta_short : IsShort plan.plan.quanta
 
@@ -72,7 +73,7 @@ AreWorldsAsLong (first ∷ others) = AllByRecursion (λ world. length world.tape
 -- from 1 to 2^20
 pub record IsTimes (times : ℕ) : Type 0 where
   pub low : 1 ≤ times
-  pub high : times ≤ 1048576
+  pub high : times ≤ max_events
 
 pub record IsEventRunInRange (run : EventRun) : Type 0 where
   pub hart : hart_of run.event ≤ 7

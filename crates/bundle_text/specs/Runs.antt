@@ -1,5 +1,6 @@
 -- The run that a token of `events` or `order` says.
 use Rattle.std.specs.Prelude.{ℕ, ◌-◌, ◌==◌, ◌&&◌, nat_le, List, [], ◌∷◌, Option, Some, None, option_map, Result, Ok, Err, if◌then◌else◌}
+use Rattle.isa_model.specs.Limits.{max_events}
 use Rattle.core_model.specs.declared.event.Event.{Event}
 use Rattle.core_model.specs.declared.event.Event.TheVariants.{Go, Tick}
 use Rattle.core_model.specs.declared.event.EventRun.{EventRun}
@@ -24,7 +25,7 @@ run_of (digit ∷ suffix) = if is_decimal_digit digit then option_map (λ times.
 abbrev pub run_within : Option (ℕ × ℕ) → Result OrderRun BundleKind
 run_within None = Err BadNumber
 run_within (Some run) =
-    if nat_le run.0 7 && (nat_le 1 run.1 && nat_le run.1 1048576) then Ok (record { hart = run.0; times = run.1 }) else Err OutOfRange
+    if nat_le run.0 7 && (nat_le 1 run.1 && nat_le run.1 max_events) then Ok (record { hart = run.0; times = run.1 }) else Err OutOfRange
 
 -- a run of one hart of the order
 abbrev pub order_operand : List ℕ → Result OrderRun BundleKind

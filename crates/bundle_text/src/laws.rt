@@ -9,6 +9,7 @@ ghost use Rattle.bundle_text.specs.Pieces.{lines, tokens};
 ghost use Rattle.bundle_text.specs.Numbers.{number_in, word_of};
 ghost use Rattle.bundle_text.specs.Runs.{order_operand, event_operand};
 ghost use Rattle.bundle_text.specs.Lines.{no_lines, with_lines, bundle_of};
+ghost use Rattle.bundle_text.specs.TextLines.{text_lines_of, AreTextLines, IsFirstNotText};
 ghost use Rattle.bundle_text.specs.Form.{AreLinesOf, AreTokensOf, SpellsHex, IsHexWord, IsLongHex, Breaks};
 ghost use Rattle.bundle_text.specs.Grammar.{IsBundle, Reads};
 ghost use Rattle.bundle_text.specs.declared.bundle.Bundle.{Bundle};
@@ -18,6 +19,12 @@ ghost use Rattle.bundle_text.specs.declared.bundle.BundleKind.TheVariants.{BadNu
 /// The lines that are cut from a text are the lines of its form, and no others are.
 pub fn lines_are_decided()
     ensures lines { (bytes : List ℕ) (text : List (List ℕ)) → (lines bytes ≡ text) ↔ AreLinesOf text bytes }
+{}
+
+/// The lines of text that are decided are those of the form that are all of text, and a fault is the first line of the form that isn't.
+pub fn text_lines_are_decided()
+    ensures lines { (bytes : List ℕ) (text : List (List ℕ)) → (text_lines_of bytes ≡ Ok text) ↔ AreTextLines bytes text }
+    ensures fault { (bytes : List ℕ) (fault : BundleFault) → (text_lines_of bytes ≡ Err fault) ↔ IsFirstNotText bytes fault }
 {}
 
 /// The tokens that are cut from a line are the tokens of its form, and no others are.

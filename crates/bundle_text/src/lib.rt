@@ -10,9 +10,11 @@ mod operands;
 mod pieces;
 mod places;
 mod reading;
+mod text_block;
 mod writing;
 
 pub use bundle::{Bundle, BundleFault, BundleKind, Code, Line, PlanText, TaskText, World};
 pub use core_model::Items;
 pub use reading::read_bundle;
+pub use text_block::text_lines;
 pub use writing::write_bundle;

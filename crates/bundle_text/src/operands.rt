@@ -1,6 +1,7 @@
 //! What the tokens after the first word of a line say.
 
 ghost use Rattle.std.specs.Prelude.{◌≡◌, Some, option_map};
+ghost use Rattle.isa_model.specs.Limits.{max_quantum};
 ghost use Rattle.bundle_text.specs.Pieces.{texts};
 ghost use Rattle.bundle_text.specs.Numbers.{number_in, word_of};
 ghost use Rattle.bundle_text.specs.Operands.{each, one_number, are_limit_words, band_token, limits_of, task_operands, quanta_tokens, plan_of, plan_operands, has_plan, is_as_long, world_operands};
@@ -108,7 +109,7 @@ pub(crate) fn words(alloc: Global, tokens: &[&[u8]]) -> Result<Vec<u32>, BundleK
 
 /// The quanta of tokens.
 fn quanta(alloc: Global, tokens: &[&[u8]]) -> Result<Vec<u16>, BundleKind>
-    ensures value { Says (vec_items result) (each (number_in 0 4096) (texts tokens.now)) }
+    ensures value { Says (vec_items result) (each (number_in 0 max_quantum) (texts tokens.now)) }
 {
     let mut found = Vec::new(alloc);
     for token in tokens {

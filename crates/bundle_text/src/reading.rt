@@ -8,13 +8,14 @@ ghost use Rattle.bundle_text.specs.Form.{Breaks};
 ghost use Rattle.bundle_text.specs.Grammar.{Reads};
 ghost use Rattle.bundle_text.specs.Range.{IsInRange};
 
-use crate::bundle::{Bundle, BundleFault, BundleKind, Code, Line, TaskText};
+use crate::bundle::{Bundle, BundleFault, BundleKind, Code, TaskText};
 use crate::draft::{Draft, Place, Word};
 use crate::operands::{
     events, has_plan, one_number, order, plan_operands, task_operands, words, world_operands,
 };
 use crate::pieces::{cut_line, is_text, tokens};
 use crate::places::{is_in_code, may_end, place_after, word_named};
+use crate::text_block::push_line;
 use core_model::Items;
 use isa_model::Words;
 use std::alloc::{AllocError, Global};
@@ -82,11 +83,7 @@ fn add_code_line(alloc: Global, code: &mut Code, line: &[u8]) -> Result<(), Allo
 {
     match code {
         Code::Words(_) => Ok(()),
-        Code::Text { lines, .. } => {
-            let line: Line = Items::new(Vec::from_slice(alloc, line)?);
-            lines.push(line)?;
-            Ok(())
-        }
+        Code::Text { lines, .. } => push_line(alloc, lines, line),
     }
 }
 

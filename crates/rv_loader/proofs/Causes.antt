@@ -2,7 +2,7 @@
 use Rattle.std.proofs.Common.{◌≡◌, ℕ, ◌<◌, ◌≤◌, false, nat_lt, nat_le, List, [], ◌∷◌, length, map, Some, refl, subst, arith, tests}
 use Rattle.std.specs.List.{Contains}
 use Rattle.core_model.specs.Events.{event_count, entry_count}
-use Rattle.core_model.specs.Limits.{max_action_bound}
+use Rattle.isa_model.specs.Limits.{max_action_bound}
 use Rattle.bundle_text.specs.declared.bundle.Bundle.{Bundle}
 use Rattle.bundle_text.specs.declared.bundle.PlanText.{PlanText}
 use Rattle.rv_loader.specs.declared.coding.CodedTask.{CodedTask}

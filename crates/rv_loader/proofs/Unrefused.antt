@@ -3,7 +3,7 @@ use Rattle.std.proofs.Common.{◌≡◌, ℕ, ◌<◌, ◌≤◌, ◌&&◌, true
 use Rattle.std.specs.List.{All}
 use Rattle.std.proofs.lemmas.List.Elements.{All-from_recursion, recursion_from_All, All-weaker}
 use Rattle.core_model.specs.Events.{event_count, entry_count}
-use Rattle.core_model.specs.Limits.{max_tasks, max_code_words, max_tape_words, max_quanta, max_worlds, max_events, max_order_entries, max_action_bound}
+use Rattle.isa_model.specs.Limits.{max_tasks, max_code_words, max_tape_words, max_quanta, max_worlds, max_events, max_order_entries, max_action_bound}
 use Rattle.bundle_text.specs.declared.bundle.Bundle.{Bundle}
 use Rattle.rv_loader.specs.declared.coding.CodedTask.{CodedTask}
 use Rattle.rv_loader.specs.declared.fault.LoadFault.{LoadFault}

@@ -11,7 +11,7 @@ use Rattle.core_model.specs.declared.world.World.{World}
 use Rattle.core_model.specs.declared.event.Event.{Event}
 use Rattle.core_model.specs.declared.loaded.Loaded.{Loaded}
 use Rattle.core_model.specs.Events.{hart_of}
-use Rattle.core_model.specs.Limits.{max_harts, max_tasks, max_band, max_quanta}
+use Rattle.isa_model.specs.Limits.{max_harts, max_tasks, max_band, max_quanta}
 use Rattle.core_model.specs.Loaded.{action_bound_of, IsPlanWithinLimits, IsTaskAt, AreTasksAtPlaces, AreAsLong, IsEventRunWithinLimits, IsOrderRunWithinLimits, IsWithinLimits}
 use Rattle.bundle_text.specs.declared.bundle.Bundle.{Bundle}
 use Rattle.bundle_text.specs.declared.bundle.PlanText.{PlanText}

@@ -1,4 +1,4 @@
-pub use Rattle.core_model.specs.Limits
+pub use Rattle.isa_model.specs.Limits
 pub use Rattle.core_model.specs.Loaded
 pub mod Memory
 pub mod Coding

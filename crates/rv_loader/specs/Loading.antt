@@ -3,6 +3,7 @@ use Rattle.std.specs.Prelude.{ℕ, ◌==◌, if◌then◌else◌, List, [], ◌�
 use Rattle.std.specs.List.{range_with_len, enumerate_from}
 use Rattle.isa_model.specs.declared.task.Task.{Task}
 use Rattle.isa_model.specs.TaskPlaces.{code_place, data_place}
+use Rattle.isa_model.specs.Limits.{max_quantum}
 use Rattle.core_model.specs.declared.plan.Plan.{Plan}
 use Rattle.core_model.specs.declared.loaded.Loaded.{Loaded}
 use Rattle.rv_asm.specs.declared.fault.AsmFault.{AsmFault}
@@ -17,7 +18,7 @@ use Rattle.rv_loader.specs.Refusals.{refusal_of}
 
 -- the plan of a hart without a plan line: the tail 4,096 and no quanta
 abbrev pub missing_plan : Plan
-missing_plan = record { quanta = []; tail = 4096 }
+missing_plan = record { quanta = []; tail = max_quantum }
 
 -- the plan of a hart
 abbrev pub plan_of : List PlanText → ℕ → Plan

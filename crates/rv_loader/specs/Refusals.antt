@@ -7,7 +7,7 @@ use Rattle.core_model.specs.declared.event.EventRun.{EventRun}
 use Rattle.core_model.specs.declared.event.OrderRun.{OrderRun}
 use Rattle.core_model.specs.declared.world.World.{World}
 use Rattle.core_model.specs.Events.{event_count, entry_count}
-use Rattle.core_model.specs.Limits.{max_tasks, max_code_words, max_tape_words, max_quanta, max_worlds, max_events, max_order_entries, max_action_bound}
+use Rattle.isa_model.specs.Limits.{max_tasks, max_code_words, max_tape_words, max_quanta, max_worlds, max_events, max_order_entries, max_action_bound}
 use Rattle.core_model.specs.Loaded.{action_bound}
 use Rattle.bundle_text.specs.declared.bundle.Bundle.{Bundle}
 use Rattle.bundle_text.specs.declared.bundle.PlanText.{PlanText}

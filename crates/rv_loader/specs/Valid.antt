@@ -3,7 +3,7 @@ use Rattle.std.specs.Prelude.{◌≡◌, ◌≢◌, ℕ, ◌<◌, ◌≤◌, ◌
 use Rattle.core_model.specs.declared.loaded.Loaded.{Loaded}
 use Rattle.core_model.specs.declared.plan.Plan.{Plan}
 use Rattle.core_model.specs.Events.{event_count, entry_count}
-use Rattle.core_model.specs.Limits.{max_harts, max_tasks, max_code_words, max_tape_words, max_quanta, max_worlds, max_events, max_order_entries, max_action_bound}
+use Rattle.isa_model.specs.Limits.{max_harts, max_quantum, max_tasks, max_code_words, max_tape_words, max_quanta, max_worlds, max_events, max_order_entries, max_action_bound}
 use Rattle.core_model.specs.Loaded.{action_bound_of, IsLoaded}
 use Rattle.bundle_text.specs.declared.bundle.Bundle.{Bundle}
 use Rattle.bundle_text.specs.declared.bundle.PlanText.{PlanText}
@@ -65,7 +65,7 @@ LoadingIsSound = (bundle : Bundle) (harts : ℕ) (loaded : Loaded) → 1 ≤ har
 pub record HasPlansOfLines (bundle : Bundle) (harts : ℕ) (loaded : Loaded) : Type 0 where
   pub named : (line : PlanText) → Contains bundle.plans line → (other : Plan) → slice_index_or loaded.plans line.hart other ≡ line.plan
   pub missing : (hart : ℕ) → hart < harts → All (λ line. line.hart ≢ hart) bundle.plans
-      → (other : Plan) → slice_index_or loaded.plans hart other ≡ record { quanta = []; tail = 4096 }
+      → (other : Plan) → slice_index_or loaded.plans hart other ≡ record { quanta = []; tail = max_quantum }
 
 abbrev pub PlansAreOfLines : Type 0
 PlansAreOfLines = (bundle : Bundle) (harts : ℕ) (loaded : Loaded) → IsInRange bundle → loading_of bundle harts ≡ Ok loaded → HasPlansOfLines bundle harts loaded

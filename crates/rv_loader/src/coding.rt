@@ -1,8 +1,9 @@
 //! The words of a bundle's tasks.
 
-ghost use Rattle.std.specs.Prelude.{◌≡◌, ◌+◌, ◌<◌, ◌^◌, length, Ok, IfOk, IfErr};
+ghost use Rattle.std.specs.Prelude.{◌≡◌, ◌+◌, ◌<◌, ◌≤◌, ◌^◌, length, Ok, IfOk, IfErr};
 ghost use Rattle.std.specs.List.{AllByRecursion};
 ghost use Rattle.bundle_text.specs.Range.{IsCodeInRange, IsTaskInRange};
+ghost use Rattle.isa_model.specs.Limits.{max_code_words};
 ghost use Rattle.rv_asm.specs.Listing.{texts};
 ghost use Rattle.rv_loader.specs.Coding.{words_of, coded_task, coded_tasks};
 ghost use Rattle.rv_loader.specs.Memory.{IsRefusalOf};
@@ -39,10 +40,12 @@ fn copied(alloc: Global, lines: &[Line]) -> Result<Vec<Vec<u8>>, AllocError>
     Ok(copies)
 }
 
-/// The words that lines assemble to.
-fn assembled(alloc: Global, lines: &[Line], first_line: u32) -> Result<Words, LoadFault>
+/// The words that lines of code assemble to, at most 4,096; the first line has this number. Errors: `Asm` with the first line that is refused, and
+/// `Memory`.
+pub fn code_words(alloc: Global, lines: &[Line], first_line: u32) -> Result<Words, LoadFault>
     requires numbers { first_line + length lines.now < 2 ^ 32 }
     ensures words { IfOk result (λ words. words_of (Code.Text first_line lines.now) ≡ Ok words) }
+    ensures few { IfOk result (λ words. length words ≤ max_code_words) }
     ensures refused { IfErr result (IsRefusalOf (words_of (Code.Text first_line lines.now))) }
 {
     let copies = copied(alloc, lines)?;
@@ -58,7 +61,7 @@ fn words_of(alloc: Global, code: &Code) -> Result<Words, LoadFault>
 {
     match code {
         Code::Words(words) => Ok(words.copy(alloc)?),
-        Code::Text { first_line, lines } => assembled(alloc, lines.as_slice(), *first_line),
+        Code::Text { first_line, lines } => code_words(alloc, lines.as_slice(), *first_line),
     }
 }
 

@@ -10,6 +10,7 @@ mod limits;
 mod loading;
 mod placing;
 
+pub use coding::code_words;
 pub use core_model::Loaded;
 pub use fault::{LoadFault, What};
 pub use laws::{loading_is_sound, loads_exactly_valid, plans_are_of_lines, refusals_are_so};

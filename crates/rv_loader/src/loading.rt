@@ -1,7 +1,7 @@
 //! Loading a bundle.
 
 ghost use Rattle.std.specs.Prelude.{◌≡◌, ◌≢◌, ◌≤◌, Ok, Err, IfOk, IfErr};
-ghost use Rattle.core_model.specs.Limits.{max_harts};
+ghost use Rattle.isa_model.specs.Limits.{max_harts};
 ghost use Rattle.core_model.specs.Loaded.{IsLoaded};
 ghost use Rattle.bundle_text.specs.Range.{IsInRange};
 ghost use Rattle.rv_loader.specs.declared.fault.LoadFault.TheVariants.{Memory};

@@ -1,7 +1,7 @@
 //! Plans for harts and places for tasks.
 
 ghost use Rattle.std.specs.Prelude.{◌≡◌, ◌<◌, ◌≤◌, IfOk, vec_len};
-ghost use Rattle.core_model.specs.Limits.{max_tasks};
+ghost use Rattle.isa_model.specs.Limits.{max_tasks};
 ghost use Rattle.rv_loader.specs.Loading.{plan_of, plans_of, task_at, placed_tasks, bands_of, loaded_of};
 
 use crate::coding::CodedTask;
