@@ -82,7 +82,7 @@ module _ (code : List ℕ) (h : HartState) (under : IsUnderKernel code h) where
       by-step (Steps g probes did) e =
           (one.steps under.number (ticked_if b h) g probes did (ticks-way b)
           (ap (λ (words : List ℕ). hart_step words (ticked_if b h)) (sym under.words) ∙ e)).hart
-      by-step (Wants call begun rd next) e = ticks-way b
+      by-step (Wants call early_writes rd next) e = ticks-way b
       by-step Wedged e = ticks-way b
 
 -- a step that goes on asks for nothing
@@ -151,7 +151,7 @@ module _ (code : List ℕ) (plan : Plan) (progress : HartPace) (number : ℕ) (a
             → Rest code plan progress number a (hart_after f step) (steps + 1) Stood Then room_then room_next
         by-step m left (Steps g probes d) e =
             by-further m left g probes (ap probes_of e) (more m g) refl (sym (ap (own_by (more m) events f) e) ∙ unfolded m left)
-        by-step m left (Wants call begun rd next) e = absurd (ran call (is ∙ ap did_of e))
+        by-step m left (Wants call early_writes rd next) e = absurd (ran call (is ∙ ap did_of e))
         by-step m left Wedged e =
             let none = sym (ap (own_by (more m) events f) e) ∙ unfolded m left in absurd (cc none)
 
@@ -172,7 +172,7 @@ module _ (code : List ℕ) (plan : Plan) (progress : HartPace) (number : ℕ) (a
         by-step m left (Steps g probes d) e =
             absurd (asks-none call g probes d (let P : StepResult → Type 0 = λ s. AsksFor call s in subst P e asks))
         by-step m left Wedged e = let none = sym (ap (own_by (more m) events f) e) ∙ unfolded m left in absurd (cc none)
-        by-step m left (Wants wanted begun rd next) e =
+        by-step m left (Wants wanted early_writes rd next) e =
             let found = sym (ap (own_by (more m) events f) e) ∙ unfolded m left in
             let same : record { call = wanted; hart = f; probes = []; events = events } ≡ rest.b = cc found in
             let calls : dids.Wants call ≡ dids.Wants wanted = sym wants ∙ is ∙ ap did_of e in

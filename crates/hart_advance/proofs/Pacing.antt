@@ -95,17 +95,17 @@ module _ (code : List ℕ) (number : ℕ) (tasks : List Task) (h : HartState) (v
     where
       by-machine : (step : StepResult) → KeepsCount f step → CountsBy f v (hart_after f step)
       by-machine (Steps g probes did) keeps = inl keeps
-      by-machine (Wants call begun rd next) keeps = inl refl
+      by-machine (Wants call early_writes rd next) keeps = inl refl
       by-machine Wedged keeps = inl refl
 
       by-stay : (step : StepResult) → StepCounts f (count_held f.held) step → CountsBy f v (hart_after f step)
       by-stay (Steps g probes did) counts = inl counts.count_is
-      by-stay (Wants call begun rd next) counts = inl refl
+      by-stay (Wants call early_writes rd next) counts = inl refl
       by-stay Wedged counts = inl refl
 
       by-more : v.ran ≢ v.quantum → (step : StepResult) → StepCounts f (one_more (count_held f.held)) step → CountsBy f v (hart_after f step)
       by-more ne (Steps g probes did) counts = inr (counts.count_is, ne)
-      by-more ne (Wants call begun rd next) counts = inl refl
+      by-more ne (Wants call early_writes rd next) counts = inl refl
       by-more ne Wedged counts = inl refl
 
       by-mode : (mode : Mode) → f.csrs.mode ≡ mode → CountsBy f v (hart_after f (hart_step code f))

@@ -3,7 +3,7 @@ use Rattle.std.proofs.Common.{◌≡◌, ℕ, ◌+◌, ◌*◌, ◌^◌, ◌≤�
 use Rattle.hart_model.specs.declared.probe.Probe.{Probe}
 use Rattle.core_model.specs.declared.loaded.Loaded.{Loaded}
 use Rattle.core_model.specs.Loaded.{IsLoaded, action_bound_of}
-use Rattle.core_model.specs.Limits.{max_action_bound}
+use Rattle.isa_model.specs.Limits.{max_action_bound}
 use Rattle.core_model.specs.Orders.{CoarseState, boot_coarse, after_entry, IsLegalFrom, IsLegal}
 use Rattle.core_invariant.specs.KernelStates.{KernelParts, IsKernel}
 use Rattle.probe_log.specs.Counts.{Counts, StandFor, total_of, counts_left}

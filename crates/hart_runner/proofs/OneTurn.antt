@@ -13,6 +13,7 @@ use Rattle.hart_state.specs.Asked.{AsksTake}
 use Rattle.core_model.specs.declared.action.Action.{Action}
 use Rattle.core_model.specs.declared.loaded.Loaded.{Loaded}
 use Rattle.core_model.specs.Board.{BoardState}
+use Rattle.core_model.specs.BoardStep.{BoardStep, board_step_of}
 use Rattle.core_model.specs.Core.{CoreState}
 use Rattle.core_model.specs.Loaded.{IsLoaded}
 use Rattle.core_model.specs.Orders.{HartPace, CoarseState, StepsToAction, boot_pace, boot_coarse, plan_at, held_count, count_on, pace_after, max_steps, steps_of_entry, after_entry, coarse_after, IsLegal}
@@ -31,15 +32,15 @@ use Rattle.order_laws.specs.OwnSteps.{AtAction, own_steps, moved_to, acted, acte
 use Rattle.order_laws.specs.CoarseInvariant.{IsCoarseKept}
 use Rattle.order_laws.specs.Laws.{ComesToAction}
 use Rattle.order_laws.proofs.Named.{step-named, all-own}
+use Rattle.order_laws.proofs.OneEvent.{step-probes-named}
 use Rattle.order_laws.proofs.AsEvents.{coarse-states, coarse-append}
 use Rattle.order_laws.proofs.OwnSteps.{own-kept}
 use Rattle.order_laws.proofs.OwnWay.{IsOwnWay, own-way, named-both}
 use Rattle.order_laws.proofs.Entries.{WantsNow, own-wants, GoesOn, share-goes-on, IsTurn, Found, Returned, ItsTurn, its-turn, own-by-plan}
 use Rattle.order_laws.proofs.Judged.{legal-more}
 use Rattle.order_laws.proofs.LegalOrders.{turns, harts-come}
-use Rattle.kernel_core.specs.BoardStep.{BoardStep, board_step_of, IsWanted, GivesKind, MayGive, IsAfterBoardStep}
+use Rattle.kernel_core.specs.BoardStep.{IsWanted, GivesKind, MayGive, IsAfterBoardStep}
 use Rattle.hart_runner.proofs.LegalRuns.{run-kept}
-use Rattle.hart_runner.proofs.Actions.{IsActOf, acts-so, step-probes-named}
 
 one-more : (code : List ℕ) (loaded : Loaded) (co : CoarseState) (hart : ℕ)
     → coarse_from code loaded.plans co (hart ∷ []) ≡ after_entry code loaded.plans co hart
@@ -110,10 +111,10 @@ module _ (k : KernelParts) (kernel : IsKernel k) (loaded : Loaded) (fits : IsLoa
     wants : WantsNow k.code.words a.call a.hart
     wants = own-wants k.code.words (plan_at loaded.plans number) s.pace number max_steps s.hart a own
 
-    by-call : (P : StepResult → Type 0) (call : QueueCall) → a.call ≡ call → P (Wants call wants.begun wants.rd wants.next)
+    by-call : (P : StepResult → Type 0) (call : QueueCall) → a.call ≡ call → P (Wants call wants.early_writes wants.rd wants.next)
         → P (hart_step k.code.words a.hart)
     by-call P call same holds =
-        let Q : QueueCall → Type 0 = λ c. P (Wants c wants.begun wants.rd wants.next) in
+        let Q : QueueCall → Type 0 = λ c. P (Wants c wants.early_writes wants.rd wants.next) in
         subst P (sym wants.wants) (subst Q (sym same) holds)
 
     pub wanted : IsWanted a.call (hart_step k.code.words a.hart)
@@ -139,9 +140,9 @@ module _ (k : KernelParts) (kernel : IsKernel k) (loaded : Loaded) (fits : IsLoa
     moved-hart = get-set_same co.core.harts number s.hart a.hart is.hart
 
     nothing-out-by : (step : StepResult) → hart_step k.code.words a.hart ≡ step → AsksTake step → HasNothingOut co.core.board number
-    nothing-out-by (Wants Take begun rd next) e asks = (may-take k loaded one moved moved-kept number a.hart moved-hart begun rd next e).1
-    nothing-out-by (Wants GiveReady begun rd next) e asks = absurd asks
-    nothing-out-by (Wants GiveDone begun rd next) e asks = absurd asks
+    nothing-out-by (Wants Take early_writes rd next) e asks = (may-take k loaded one moved moved-kept number a.hart moved-hart early_writes rd next e).1
+    nothing-out-by (Wants GiveReady early_writes rd next) e asks = absurd asks
+    nothing-out-by (Wants GiveDone early_writes rd next) e asks = absurd asks
     nothing-out-by (Steps hart probes did) e asks = absurd asks
     nothing-out-by Wedged e asks = absurd asks
 
@@ -150,18 +151,18 @@ module _ (k : KernelParts) (kernel : IsKernel k) (loaded : Loaded) (fits : IsLoa
 
     may-give-by : (kind : Kind) (step : StepResult) → hart_step k.code.words a.hart ≡ step → GivesKind kind step
         → MayGive co.core.board number a.hart kind
-    may-give-by Ready (Wants GiveReady begun rd next) e gives =
-        let may = may-give-ready k loaded one moved moved-kept number a.hart moved-hart begun rd next e in
+    may-give-by Ready (Wants GiveReady early_writes rd next) e gives =
+        let may = may-give-ready k loaded one moved moved-kept number a.hart moved-hart early_writes rd next e in
         record { context = may.context; held = may.held; is_out = may.is_out; can_be = (may.no_end, may.stands) }
-    may-give-by Done (Wants GiveDone begun rd next) e gives =
-        let may = may-give-done k loaded one moved moved-kept number a.hart moved-hart begun rd next e in
+    may-give-by Done (Wants GiveDone early_writes rd next) e gives =
+        let may = may-give-done k loaded one moved moved-kept number a.hart moved-hart early_writes rd next e in
         record { context = may.context; held = may.held; is_out = may.is_out; can_be = (may.has_end, may.scrubbed) }
-    may-give-by Ready (Wants Take begun rd next) e gives = absurd gives
-    may-give-by Ready (Wants GiveDone begun rd next) e gives = absurd gives
+    may-give-by Ready (Wants Take early_writes rd next) e gives = absurd gives
+    may-give-by Ready (Wants GiveDone early_writes rd next) e gives = absurd gives
     may-give-by Ready (Steps hart probes did) e gives = absurd gives
     may-give-by Ready Wedged e gives = absurd gives
-    may-give-by Done (Wants Take begun rd next) e gives = absurd gives
-    may-give-by Done (Wants GiveReady begun rd next) e gives = absurd gives
+    may-give-by Done (Wants Take early_writes rd next) e gives = absurd gives
+    may-give-by Done (Wants GiveReady early_writes rd next) e gives = absurd gives
     may-give-by Done (Steps hart probes did) e gives = absurd gives
     may-give-by Done Wedged e gives = absurd gives
 
@@ -212,20 +213,17 @@ module _ (k : KernelParts) (kernel : IsKernel k) (loaded : Loaded) (fits : IsLoa
     abbrev pub step : BoardStep
     step = board_step_of k.code.words co.core.board number a.hart
 
-    act : IsActOf moved number step (acted k.code.words co.core number a)
-    act = acts-so moved number a.hart moved-hart (hart_step k.code.words a.hart)
-
     next-board : next.core.board ≡ step.board
-    next-board = ap (λ (x : CoarseState). x.core.board) next-is ∙ act.board
+    next-board = ap (λ (x : CoarseState). x.core.board) next-is
 
     harts-then : next.core.harts ≡ set co.core.harts number step.hart
-    harts-then = ap (λ (x : CoarseState). x.core.harts) next-is ∙ act.harts ∙ set-set co.core.harts number a.hart step.hart
+    harts-then = ap (λ (x : CoarseState). x.core.harts) next-is ∙ set-set co.core.harts number a.hart step.hart
 
     hart-then : slice_get next.core.harts number ≡ Some step.hart
     hart-then = ap (λ (hs : List HartState). slice_get hs number) harts-then ∙ get-set_same co.core.harts number s.hart step.hart is.hart
 
     log-then : next.core.log ≡ co.core.log ++ (a.probes ++ step.probes)
-    log-then = ap (λ (x : CoarseState). x.core.log) next-is ∙ act.log ∙ append_assoc co.core.log a.probes step.probes
+    log-then = ap (λ (x : CoarseState). x.core.log) next-is ∙ append_assoc co.core.log a.probes step.probes
 
     way : IsOwnWay loaded.tasks k one (plan_at loaded.plans number) s.pace number a
     way = own-way loaded.tasks k one (plan_at loaded.plans number) s.pace number max_steps s.hart a (kept.core.harts number s.hart is.hart) own
@@ -234,7 +232,7 @@ module _ (k : KernelParts) (kernel : IsKernel k) (loaded : Loaded) (fits : IsLoa
     entries-then =
         let sound = (one.is_sound number a.hart way.way).csrs.hart in
         let named = named-both number a.probes step.probes way.named
-        (step-probes-named co.core.board number a.hart sound (hart_step k.code.words a.hart) (step-named number k.code.words a.hart sound)) in
+        (step-probes-named number co.core.board a.hart sound (hart_step k.code.words a.hart) (step-named number k.code.words a.hart sound)) in
         ap (entries_by number) log-then
         ∙ filter-append _ co.core.log (a.probes ++ step.probes)
         ∙ ap (λ front. front ++ entries_by number (a.probes ++ step.probes)) is.entries
@@ -245,8 +243,7 @@ module _ (k : KernelParts) (kernel : IsKernel k) (loaded : Loaded) (fits : IsLoa
         let r = acted k.code.words co.core number a in
         let at : slice_get r.core.harts number ≡ Some step.hart = ap (λ (x : CoarseState). slice_get x.core.harts number) (sym next-is) ∙ hart-then in
         let pace : pace_after s.pace (count_on (slice_get r.core.harts number)) r.action ≡ pace_after s.pace (held_count step.hart.held) step.action =
-        ap (λ (o : Option HartState). pace_after s.pace (count_on o) r.action) at
-        ∙ ap (λ (x : Option Action). pace_after s.pace (held_count step.hart.held) x) act.action_is in
+        ap (λ (o : Option HartState). pace_after s.pace (count_on o) r.action) at in
         ap (λ (x : CoarseState). slice_get x.paces number) next-is
         ∙ get-set_same co.paces number s.pace _ is.pace
         ∙ ap (λ (p : HartPace). Some p) pace
@@ -257,7 +254,7 @@ module _ (k : KernelParts) (kernel : IsKernel k) (loaded : Loaded) (fits : IsLoa
       board-after = gone.board ∙ sym next-board ∙ ap (λ (c : CoreState). c.board) (coarse-states loaded k.code (order ++ number ∷ []))
 
       pub action-made : (steps_of_entry k.code.words loaded.plans co number).action ≡ Some action
-      action-made = ap (λ (t : StepsToAction). t.action) entry ∙ act.action_is ∙ sym gone.action_is
+      action-made = ap (λ (t : StepsToAction). t.action) entry ∙ sym gone.action_is
 
       abbrev pub share_after : HartShare
       share_after = record {

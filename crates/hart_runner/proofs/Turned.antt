@@ -11,6 +11,7 @@ use Rattle.core_model.specs.declared.action.Action.TheVariants as actions
 use Rattle.core_model.specs.declared.plan.Plan.{Plan}
 use Rattle.core_model.specs.declared.loaded.Loaded.{Loaded}
 use Rattle.core_model.specs.Board.{BoardState, BoardWithSpare, all_ready}
+use Rattle.core_model.specs.BoardStep.{BoardStep, board_step_of}
 use Rattle.core_model.specs.Core.{CoreState}
 use Rattle.core_model.specs.KernelWords.{kernel_code}
 use Rattle.core_model.specs.Loaded.{IsLoaded}
@@ -32,7 +33,7 @@ use Rattle.order_laws.proofs.LegalOrders.{boards-tell}
 use Rattle.hart_advance.specs.Pacing.{IsPaceOf, IsUnderKernel}
 use Rattle.hart_advance.specs.Advancing.{ReachesAction, CanAdvance}
 use Rattle.hart_advance.proofs.CanAdvance.{can-advance}
-use Rattle.kernel_core.specs.BoardStep.{BoardStep, board_step_of, drawn_by, GivesKind, MayGive, CanTake, CanGive, IsAfterBoardStep}
+use Rattle.kernel_core.specs.BoardStep.{drawn_by, GivesKind, MayGive, CanTake, CanGive, IsAfterBoardStep}
 use Rattle.kernel_core.proofs.PacedGo.{action-follows}
 use Rattle.hart_runner.specs.declared.own_hart.OwnHart.{OwnHart}
 use Rattle.hart_runner.specs.declared.receipt.Receipt.{Receipt}

@@ -1,18 +1,12 @@
 -- A core that is told one event more.
 use Rattle.std.proofs.Common.{◌≡◌, ℕ, List, [], ◌++◌, slice_get, Option, Some, None, refl, sym, ap, subst, ◌∙◌, append-nil}
-use Rattle.isa_model.specs.declared.ends.End.{End}
-use Rattle.hart_model.specs.declared.calls.QueueCall.TheVariants.{Take, GiveReady, GiveDone}
 use Rattle.hart_model.specs.declared.probe.Probe.{Probe}
-use Rattle.hart_model.specs.Context.{ContextState}
 use Rattle.hart_model.specs.HartState.{HartState}
-use Rattle.hart_model.specs.Writes.{CellWrite}
-use Rattle.hart_model.specs.StepResult.{StepResult, Steps, Wants, Wedged}
-use Rattle.hart_model.specs.HartStep.{hart_step}
 use Rattle.core_model.specs.declared.event.Event.{Event}
 use Rattle.core_model.specs.declared.event.Event.TheVariants.{Go, Tick}
 use Rattle.core_model.specs.Board.{BoardState}
 use Rattle.core_model.specs.Loaded.{IsLoaded}
-use Rattle.core_model.specs.Core.{CoreState, CoreAndAction, event_result, after_event, after_go, after_step, after_call, after_give_done, after_tick, without_action}
+use Rattle.core_model.specs.Core.{CoreState, CoreAndAction, event_result, after_event, after_go, after_tick, without_action}
 use Rattle.core_invariant.proofs.Events.{core-more}
 use Rattle.core_invariant.proofs.FromHarts.{stays-sound, outputs-stay, one-home-each}
 use Rattle.core_invariant.proofs.Proved.{kernel-harts}
@@ -35,31 +29,9 @@ module _ (code : List ℕ) (c : CoreState) where
   nothing-more : IsSameBut c.log (without_action c) (without_action bare)
   nothing-more = record { board = refl; harts = refl; log_is = sym (append-nil c.log); action_is = refl }
 
-  end-same : (hart : ℕ) (h : HartState) (begun : List CellWrite) (next : ℕ) (held : ContextState) (end : Option End)
-      → IsSameBut c.log (after_give_done c hart h begun next held end) (after_give_done bare hart h begun next held end)
-  end-same hart h begun next held None = nothing-more
-  end-same hart h begun next held (Some end) = record { board = refl; harts = refl; log_is = refl; action_is = refl }
-
-  give-ready-same : (hart : ℕ) (h : HartState) (begun : List CellWrite) (rd next : ℕ) (held : Option ContextState)
-      → IsSameBut c.log (after_call c hart h GiveReady begun rd next held) (after_call bare hart h GiveReady begun rd next held)
-  give-ready-same hart h begun rd next None = nothing-more
-  give-ready-same hart h begun rd next (Some held) = record { board = refl; harts = refl; log_is = refl; action_is = refl }
-
-  give-done-same : (hart : ℕ) (h : HartState) (begun : List CellWrite) (rd next : ℕ) (held : Option ContextState)
-      → IsSameBut c.log (after_call c hart h GiveDone begun rd next held) (after_call bare hart h GiveDone begun rd next held)
-  give-done-same hart h begun rd next None = nothing-more
-  give-done-same hart h begun rd next (Some held) = end-same hart h begun next held held.end
-
-  step-same : (hart : ℕ) (h : HartState) (step : StepResult) → IsSameBut c.log (after_step c hart h step) (after_step bare hart h step)
-  step-same hart h (Steps after probes did) = record { board = refl; harts = refl; log_is = refl; action_is = refl }
-  step-same hart h (Wants Take begun rd next) = record { board = refl; harts = refl; log_is = refl; action_is = refl }
-  step-same hart h (Wants GiveReady begun rd next) = give-ready-same hart h begun rd next h.held
-  step-same hart h (Wants GiveDone begun rd next) = give-done-same hart h begun rd next h.held
-  step-same hart h Wedged = nothing-more
-
   go-same : (hart : ℕ) (h : Option HartState) → IsSameBut c.log (after_go code c hart h) (after_go code bare hart h)
   go-same hart None = nothing-more
-  go-same hart (Some h) = step-same hart h (hart_step code h)
+  go-same hart (Some h) = record { board = refl; harts = refl; log_is = refl; action_is = refl }
 
   tick-same : (hart : ℕ) (h : Option HartState) → IsSameBut c.log (without_action (after_tick c hart h)) (without_action (after_tick bare hart h))
   tick-same hart None = nothing-more

@@ -7,11 +7,13 @@ use Rattle.core_model.specs.declared.action.Action.{Action}
 use Rattle.core_model.specs.declared.loaded.Loaded.{Loaded}
 use Rattle.core_model.specs.declared.plan.Plan.{Plan}
 use Rattle.core_model.specs.Board.{BoardWithSpare}
+use Rattle.core_model.specs.BoardStep.{board_step_of}
+use Rattle.core_model.specs.Core.{CoreAndAction}
 use Rattle.core_model.specs.Routines.{ticked_if}
 use Rattle.core_model.specs.Orders.{HartPace, is_tick_due}
 use Rattle.core_invariant.proofs.Items.{get-set_same, set-same}
 use Rattle.hart_advance.specs.Pacing.{IsUnderKernel, due_hart}
-use Rattle.kernel_core.specs.BoardStep.{board_step_of, CanGo, IsAfterBoardStep}
+use Rattle.kernel_core.specs.BoardStep.{CanGo, IsAfterBoardStep}
 use Rattle.kernel_core.specs.Running.{RunValue, IsRunKept, IsAfterEvent, event_on, entries_of}
 use Rattle.kernel_core.specs.PacedRun.{with_due, ticked_run}
 use Rattle.kernel_core.proofs.RunFacts.{can-go, go-so}
@@ -103,7 +105,7 @@ module _ (r : RunValue) (number : ℕ) (h : HartState) (is : slice_get r.harts n
     harts-of-paced =
         let v : RunValue = with_board_and_hart r r.board number due in
         ap (λ (x : RunValue). (event_on x (Go number)).core.harts) ticked-is
-        ∙ (go-so v number due (get-set_same r.harts number h due is)).harts
+        ∙ ap (λ (x : CoreAndAction). x.core.harts) (go-so v number due (get-set_same r.harts number h due is))
         ∙ set-set r.harts number due (board_step_of r.kernel.code.words r.board.lists number due).hart
 
     pub entries-of-paced : entries_of t (Go number) ≡ (board_step_of r.kernel.code.words r.board.lists number due).probes

@@ -14,7 +14,9 @@ use Rattle.core_model.specs.declared.action.Action.{Action}
 use Rattle.core_model.specs.declared.event.Event.{Event}
 use Rattle.core_model.specs.declared.event.Event.TheVariants.{Go, Tick}
 use Rattle.core_model.specs.declared.plan.Plan.{Plan}
-use Rattle.core_model.specs.Core.{CoreState, CoreAndAction, after_event, after_call, after_give_done, after_step, after_go, after_tick}
+use Rattle.core_model.specs.Board.{BoardState}
+use Rattle.core_model.specs.BoardStep.{BoardStep, board_step_by_give_done, board_step_by_call, board_step, board_step_of}
+use Rattle.core_model.specs.Core.{CoreState, CoreAndAction, after_event, after_go, after_tick}
 use Rattle.core_model.specs.Orders.{HartPace, StepsToAction, is_tick_due, events_of_step, result_of, steps_to_action}
 use Rattle.core_invariant.proofs.FewEntries.{IsFewStep, hart_step_few}
 use Rattle.order_laws.specs.LongLogs.{is_log_above}
@@ -25,27 +27,36 @@ module _ (code : List ℕ) (hart : ℕ) where
   abbrev IsQuiet : CoreState → CoreAndAction → Type 0
   IsQuiet c r = r.action ≡ None → (length r.core.log ≤ length c.log + 6) × (r.core.board ≡ c.board)
 
-  done-quiet : (c : CoreState) (h : HartState) (begun : List CellWrite) (next : ℕ) (held : ContextState) (end : Option End)
-      → IsQuiet c (after_give_done c hart h begun next held end)
-  done-quiet c h begun next held None none = (omega arith, refl)
-  done-quiet c h begun next held (Some end) none = absurd (cc none)
+  -- a step that makes no action leaves the board and makes at most six entries
+  abbrev LeavesBoard : BoardState → BoardStep → Type 0
+  LeavesBoard b s = s.action ≡ None → (length s.probes ≤ 6) × (s.board ≡ b)
 
-  call-quiet : (c : CoreState) (h : HartState) (call : QueueCall) (begun : List CellWrite) (rd next : ℕ) (held : Option ContextState)
-      → IsQuiet c (after_call c hart h call begun rd next held)
-  call-quiet c h Take begun rd next held none = absurd (cc none)
-  call-quiet c h GiveReady begun rd next None none = (omega arith, refl)
-  call-quiet c h GiveReady begun rd next (Some held) none = absurd (cc none)
-  call-quiet c h GiveDone begun rd next None none = (omega arith, refl)
-  call-quiet c h GiveDone begun rd next (Some held) none = done-quiet c h begun next held held.end none
+  done-leaves : (b : BoardState) (h : HartState) (early_writes : List CellWrite) (next : ℕ) (held : ContextState) (end : Option End)
+      → LeavesBoard b (board_step_by_give_done b hart h early_writes next held end)
+  done-leaves b h early_writes next held None none = (omega arith, refl)
+  done-leaves b h early_writes next held (Some end) none = absurd (cc none)
 
-  step-quiet : (c : CoreState) (h : HartState) (step : StepResult) → IsFewStep step → IsQuiet c (after_step c hart h step)
-  step-quiet c h (Steps after probes did) few none = let both = length-append c.log probes in (omega (arith, both, few), refl)
-  step-quiet c h (Wants call begun rd next) few none = call-quiet c h call begun rd next h.held none
-  step-quiet c h Wedged few none = (omega arith, refl)
+  call-leaves : (b : BoardState) (h : HartState) (call : QueueCall) (early_writes : List CellWrite) (rd next : ℕ) (held : Option ContextState)
+      → LeavesBoard b (board_step_by_call b hart h call early_writes rd next held)
+  call-leaves b h Take early_writes rd next held none = absurd (cc none)
+  call-leaves b h GiveReady early_writes rd next None none = (omega arith, refl)
+  call-leaves b h GiveReady early_writes rd next (Some held) none = absurd (cc none)
+  call-leaves b h GiveDone early_writes rd next None none = (omega arith, refl)
+  call-leaves b h GiveDone early_writes rd next (Some held) none = done-leaves b h early_writes next held held.end none
+
+  step-leaves : (b : BoardState) (h : HartState) (step : StepResult) → IsFewStep step → LeavesBoard b (board_step b hart h step)
+  step-leaves b h (Steps after probes did) few none = (few, refl)
+  step-leaves b h (Wants call early_writes rd next) few none = call-leaves b h call early_writes rd next h.held none
+  step-leaves b h Wedged few none = (omega arith, refl)
 
   go-quiet : (c : CoreState) (o : Option HartState) → IsQuiet c (after_go code c hart o)
   go-quiet c None none = (omega arith, refl)
-  go-quiet c (Some h) none = step-quiet c h (hart_step code h) (hart_step_few code h) none
+  go-quiet c (Some h) none =
+      let s = board_step_of code c.board hart h in
+      let leaves = step-leaves c.board h (hart_step code h) (hart_step_few code h) none in
+      let both = length-append c.log s.probes in
+      let few = leaves.0 in
+      (omega (arith, both, few), leaves.1)
 
   record IsTicked (c d : CoreState) : Type 0 where
     log : d.log ≡ c.log

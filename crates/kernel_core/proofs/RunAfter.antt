@@ -5,8 +5,9 @@ use Rattle.core_model.specs.declared.event.Event.TheVariants.{Go, Tick}
 use Rattle.core_model.specs.declared.action.Action.{Action}
 use Rattle.core_model.specs.declared.loaded.Loaded.{Loaded}
 use Rattle.core_model.specs.Board.{BoardWithSpare}
+use Rattle.core_model.specs.BoardStep.{board_step_of}
 use Rattle.core_model.specs.Core.{CoreAndAction, after_tick, without_action}
-use Rattle.kernel_core.specs.BoardStep.{board_step_of, IsAfterBoardStep}
+use Rattle.kernel_core.specs.BoardStep.{IsAfterBoardStep}
 use Rattle.kernel_core.specs.Running.{RunValue, IsRunKept, IsAfterEvent, core_of_run, event_on, entries_of}
 use Rattle.kernel_core.proofs.RunFacts.{go-so, kept-after}
 
@@ -26,17 +27,17 @@ module _ (r : RunValue) (number : ℕ) (h : HartState) (is : slice_get r.harts n
     after-go =
         let so = go-so r number h is in
         record {
-          board = gone.board ∙ sym so.board;
-          harts = ap (λ (x : HartState). set r.harts number x) gone.hart ∙ sym so.harts;
+          board = gone.board ∙ ap (λ (x : CoreAndAction). x.core.board) (sym so);
+          harts = ap (λ (x : HartState). set r.harts number x) gone.hart ∙ ap (λ (x : CoreAndAction). x.core.harts) (sym so);
           kernel = refl;
           actions = refl;
         }
 
     pub action-of-go : action ≡ (event_on r (Go number)).action
-    action-of-go = gone.action_is ∙ sym (go-so r number h is).action_is
+    action-of-go = gone.action_is ∙ ap (λ (x : CoreAndAction). x.action) (sym (go-so r number h is))
 
   pub entries-of-go : entries_of r (Go number) ≡ (board_step_of r.kernel.code.words r.board.lists number h).probes
-  entries-of-go = (go-so r number h is).log
+  entries-of-go = ap (λ (x : CoreAndAction). x.core.log) (go-so r number h is)
 
   pub after-tick-of : (g : HartState) → g ≡ tick_of h → IsAfterEvent r (with_board_and_hart r r.board number g) (Tick number)
   after-tick-of g ticked =

@@ -6,7 +6,8 @@ ghost use Rattle.hart_model.specs.HartStep.{hart_step};
 ghost use Rattle.core_model.specs.declared.plan.Plan.{Plan as HartPlan};
 ghost use Rattle.core_model.specs.Orders.{HartPace, held_count, pace_after};
 ghost use Rattle.hart_advance.specs.Pacing.{IsPaceOf, IsUnderKernel, due_hart};
-ghost use Rattle.kernel_core.specs.BoardStep.{board_step_of, IsWanted, CanGo, CanGoPaced, IsAfterBoardStep};
+ghost use Rattle.core_model.specs.BoardStep.{board_step_of};
+ghost use Rattle.kernel_core.specs.BoardStep.{IsWanted, CanGo, CanGoPaced, IsAfterBoardStep};
 
 use crate::queue_action::{draw_if_taken, give, take};
 use core_model::Action;

@@ -2,7 +2,8 @@
 
 ghost use Rattle.std.specs.Prelude.{◌≡◌, ◌≤◌, ◌+◌, ◌++◌, List, length, Some};
 ghost use Rattle.hart_model.specs.declared.probe.Probe.{Probe as LogEntry};
-ghost use Rattle.kernel_core.specs.BoardStep.{board_step_of, drawn_by, CanTake, CanGive, IsAfterBoardStep};
+ghost use Rattle.core_model.specs.BoardStep.{board_step_of};
+ghost use Rattle.kernel_core.specs.BoardStep.{drawn_by, CanTake, CanGive, IsAfterBoardStep};
 
 use core_model::Action;
 use hart_state::Hart;

@@ -7,7 +7,8 @@ use Rattle.core_model.specs.Orders.{held_count, pace_after}
 use Rattle.timer_plan.specs.Pace.{PaceState}
 use Rattle.hart_advance.specs.Pacing.{IsPaceOf, due_hart, paced_step}
 use Rattle.hart_advance.proofs.Advanced.{none-wants}
-use Rattle.kernel_core.specs.BoardStep.{board_step_of, IsWanted, CanGo, IsAfterBoardStep}
+use Rattle.core_model.specs.BoardStep.{board_step_of}
+use Rattle.kernel_core.specs.BoardStep.{IsWanted, CanGo, IsAfterBoardStep}
 use Rattle.kernel_core.proofs.Wanted.{no-entries, room-left}
 use Rattle.kernel_core.proofs.PacedGo.{comes-to, leaves-board, action-follows}
 use Rattle.kernel_core.proofs.board_step.go_paced.Goals as goal

@@ -3,7 +3,8 @@ use Rattle.std.proofs.Common.{◌≡◌, ◌<◌, ◌+◌, ◌++◌, ◌∙◌, 
 use Rattle.hart_model.specs.declared.probe.Probe.{Probe as LogEntry}
 use Rattle.core_model.specs.declared.event.Event.TheVariants as events
 use Rattle.core_model.specs.KernelWords.{KernelCodeState}
-use Rattle.kernel_core.specs.BoardStep.{CanGo, IsAfterBoardStep, board_step_of}
+use Rattle.core_model.specs.BoardStep.{board_step_of}
+use Rattle.kernel_core.specs.BoardStep.{CanGo, IsAfterBoardStep}
 use Rattle.kernel_core.specs.Running.{RunValue, IsAfterEvent, event_on, entries_of}
 use Rattle.kernel_core.proofs.RunFacts.{can-go}
 use Rattle.kernel_core.proofs.RunAfter.{index-is, with_board_and_hart, after-go, action-of-go, entries-of-go, kept-go}

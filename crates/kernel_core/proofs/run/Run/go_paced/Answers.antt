@@ -8,7 +8,8 @@ use Rattle.core_model.specs.Orders.{count_on, pace_after}
 use Rattle.core_model.proofs.Lists.{some-is}
 use Rattle.core_invariant.proofs.Items.{get-set_same}
 use Rattle.hart_advance.specs.Pacing.{IsPaceOf, IsUnderKernel, due_hart}
-use Rattle.kernel_core.specs.BoardStep.{CanGo, IsAfterBoardStep, board_step_of}
+use Rattle.core_model.specs.BoardStep.{board_step_of}
+use Rattle.kernel_core.specs.BoardStep.{CanGo, IsAfterBoardStep}
 use Rattle.kernel_core.specs.Running.{RunValue, IsAfterEvent, event_on, entries_of}
 use Rattle.kernel_core.specs.PacedRun.{ticked_run}
 use Rattle.kernel_core.proofs.RunAfter.{index-is, with_board_and_hart}
