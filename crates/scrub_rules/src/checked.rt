@@ -2,9 +2,12 @@
 
 ghost use Rattle.std.specs.Prelude.{◌≡◌, ◌≤◌, length, IfOk};
 ghost use Rattle.core_model.specs.Routines.{Saves, Restores, part_limit};
+ghost use Rattle.core_invariant.specs.KernelStates.{linked_parts};
+ghost use Rattle.kernel_core.specs.Kernels.{IsWholeKernel};
 ghost use Rattle.scrub_rules.specs.Parts.{DoTheirWork};
 
 use core_model::Items;
+use kernel_core::Kernel;
 use std::alloc::{AllocError, Global};
 use std::marker::Model;
 
@@ -68,5 +71,14 @@ impl Checked {
         ensures length { result ≡ length self.now.restore }
     {
         self.restore.len() as u32
+    }
+
+    /// The kernel with these two parts, linked with the kernel's middle. So whatever is proved of every kernel holds of each core that is
+    /// booted with it. `AllocError` is want of memory.
+    pub fn kernel(&self, alloc: Global) -> Result<Kernel, AllocError>
+        ensures kernel { IfOk result (λ k. k ≡ linked_parts self.now.save self.now.restore) }
+        ensures whole { IfOk result (λ k. IsWholeKernel k) }
+    {
+        Kernel::of(alloc, self.save.as_slice(), self.restore.as_slice())
     }
 }
