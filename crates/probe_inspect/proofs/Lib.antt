@@ -1,4 +1,5 @@
 pub mod Reached
+pub mod Marked
 -- Worlds by their secrets.
 pub mod Numbered
 pub mod Grouping

@@ -7,7 +7,7 @@ use Rattle.std.proofs.lemmas.Option.{same_Some}
 use Rattle.std.proofs.lemmas.Bool.{cases_order, cases_lt, lt-ltb, le-ltb, ne_eqb}
 use Rattle.std.proofs.lemmas.List.{length-map}
 use Rattle.std.proofs.lemmas.List.Sorted.{sum_by-IsPermutation, length_permutation}
-use Rattle.core_model.specs.Limits.{max_worlds}
+use Rattle.isa_model.specs.Limits.{max_worlds}
 use Rattle.core_model.specs.Security.{same_pair}
 use Rattle.count_differences.specs.Differences.{how_often, IsLeastDifference}
 use Rattle.probing_laws.specs.Verdicts.{IsLess}

@@ -3,7 +3,7 @@ use Rattle.std.specs.Prelude.{◌≡◌, ◌≤◌, List, All, length, Err, slic
 use Rattle.isa_model.specs.declared.task.Task.{Task}
 use Rattle.isa_model.specs.TaskPlaces.{IsValidTask}
 use Rattle.core_model.specs.declared.world.World.{World}
-use Rattle.core_model.specs.Limits.{max_worlds, max_tape_words}
+use Rattle.isa_model.specs.Limits.{max_worlds, max_tape_words}
 use Rattle.core_model.specs.Loaded.{AreAsLong}
 use Rattle.core_model.specs.Security.{task_in}
 use Rattle.probing_laws.specs.declared.verdict.CertFault.{CertFault}

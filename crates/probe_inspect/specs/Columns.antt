@@ -1,7 +1,7 @@
 -- What the rows of all worlds have in one place, group by group (this project's own).
 use Rattle.std.specs.Prelude.{◌≡◌, ◌≢◌, ℕ, ◌+◌, ◌<◌, ◌≤◌, List, All, length, map, Option, None, Some, slice_get, slice_index, count_by}
 use Rattle.isa_model.specs.declared.latch.Latch.{Latch}
-use Rattle.core_model.specs.Limits.{max_worlds}
+use Rattle.isa_model.specs.Limits.{max_fuel, max_worlds}
 use Rattle.core_model.specs.Security.{same_pair}
 use Rattle.probing_laws.specs.Verdicts.{IsLess}
 use Rattle.probing_laws.specs.declared.verdict.Verdict.{Verdict}
@@ -84,7 +84,7 @@ IsFoundFrom groups rows from count (Some found) = IsFirstOf groups rows from cou
 
 -- A course and rows of its length.
 pub record AreRowsAlong (course : Course) (rows : List Row) : Type 0 where
-  pub short : length course.steps ≤ 100000
+  pub short : length course.steps ≤ max_fuel
   pub slim : (n : ℕ) (passed : Passed) → slice_get course.steps n ≡ Some passed → length passed.latches ≤ 7
   pub wide : All (λ (row : Row). (length row.was ≡ places_before (latches_at course) (length course.steps))
       × (length row.now ≡ places_before (latches_at course) (length course.steps))) rows

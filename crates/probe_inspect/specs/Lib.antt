@@ -1,5 +1,6 @@
 pub mod Reached
 pub mod Shown
+pub mod Trails
 -- What an instruction writes, in order.
 pub mod LatchList
 -- Worlds by their secrets.

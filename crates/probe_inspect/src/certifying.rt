@@ -4,7 +4,7 @@ ghost use Rattle.std.specs.Prelude.{◌<◌, ◌≤◌, All, IfErr, IfOk, OnOk, 
 ghost use Rattle.isa_model.specs.declared.task.Task.{Task};
 ghost use Rattle.isa_model.specs.TaskPlaces.{IsValidTask};
 ghost use Rattle.core_model.specs.declared.world.World.{World};
-ghost use Rattle.core_model.specs.Limits.{max_worlds, max_tape_words};
+ghost use Rattle.isa_model.specs.Limits.{max_worlds, max_tape_words};
 ghost use Rattle.core_model.specs.Loaded.{AreAsLong};
 ghost use Rattle.probing_laws.specs.Verdicts.{IsAdmitted, IsEven};
 ghost use Rattle.probing_laws.specs.Certified.{IsCertified};

@@ -2,7 +2,7 @@
 
 ghost use Rattle.std.specs.Prelude.{◌+◌, ◌<◌, ◌≤◌, All, IfOk, IfSome, IfNone, IsPermutation, length, slice_index_or};
 ghost use Rattle.std.specs.List.Sorted.{IsNonDecreasingBy};
-ghost use Rattle.core_model.specs.Limits.{max_worlds};
+ghost use Rattle.isa_model.specs.Limits.{max_worlds};
 ghost use Rattle.probe_inspect.specs.Groups.{numbered, IsRunFrom, AreGroupsTo, AreGroups, AsManyAs, IsFirstOdd};
 
 use core_model::World;

@@ -11,6 +11,8 @@ mod latch_list;
 mod rows;
 pub mod shown;
 mod table;
+pub mod trails;
+pub mod walk;
 
 pub use certifying::certify;
 pub use core_model::World;
@@ -18,3 +20,5 @@ pub use hart_model::{Probe, Side, Why};
 pub use isa_model::{Latch, Task, Words};
 pub use probing_laws::{CertFault, Verdict};
 pub use shown::{Shown, explain};
+pub use trails::{Trail, explain_by};
+pub use walk::Walk;

@@ -1,6 +1,6 @@
 //! The values that a why names.
 
-ghost use Rattle.std.specs.Prelude.{◌≡◌, IfOk};
+ghost use Rattle.std.specs.Prelude.{◌≡◌, ◌≤◌, IfOk};
 ghost use Rattle.std.specs.List.{AllByRecursion};
 ghost use Rattle.isa_model.specs.TaskPlaces.{IsValidTask};
 ghost use Rattle.isa_model.specs.AloneValue.{alone_value, alone_change};
@@ -23,12 +23,13 @@ pub enum Shown {
     Pair(u32, u32),
 }
 
-/// Runs a task from its start until it has executed so many instructions or has ended.
-fn run_to(alone: &mut Alone, count: u32)
-    requires start { alone.old.count ≡ 0 }
+/// Runs a task on until it has executed so many instructions or has ended.
+pub(crate) fn run_to(alone: &mut Alone, count: u64)
+    requires before { alone.old.count ≤ count }
     ensures after { IsAfter alone.old.task count alone.new }
 {
-    for _done in 0..count {
+    let start = u64::from(alone.count());
+    for _done in start..count {
         let Some(_control) = alone.step() else {
             return;
         };
@@ -41,7 +42,7 @@ fn value_after(alloc: Global, task: &Task, count: u32, latch: Latch) -> Result<S
     ensures value { IfOk result (λ shown. shown ≡ value_shown task.now count latch) }
 {
     let mut alone = Alone::start(alloc, task)?;
-    run_to(&mut alone, count);
+    run_to(&mut alone, u64::from(count));
     Ok(Shown::Value(alone.value(latch)))
 }
 
@@ -51,7 +52,7 @@ fn change_at(alloc: Global, task: &Task, step: u32, latch: &Latch) -> Result<Sho
     ensures pair { IfOk result (λ shown. shown ≡ change_shown task.now step latch.now) }
 {
     let mut alone = Alone::start(alloc, task)?;
-    run_to(&mut alone, step);
+    run_to(&mut alone, u64::from(step));
     let was = alone.value(*latch);
     let _control = alone.step();
     let now = alone.value(*latch);
@@ -60,7 +61,8 @@ fn change_at(alloc: Global, task: &Task, step: u32, latch: &Latch) -> Result<Sho
 
 /// What a probe's why names in the undisturbed run of a task: of a value the latch's value after the instructions that it says, of a
 /// step the latch's values before and after that instruction. Nothing where the why names none, and where there is no task of its
-/// number. After its end a run stays as it is. Each call runs the task anew.
+/// number. After its end a run stays as it is. Each call runs the task anew: see [`explain_by`](crate::explain_by) and
+/// [`Walk`](crate::Walk) for many entries.
 pub fn explain(alloc: Global, tasks: &[Task], probe: &Probe) -> Result<Shown, AllocError>
     requires valid { AllByRecursion IsValidTask tasks.now }
     ensures shown { IfOk result (λ shown. shown ≡ shown_of tasks.now probe.entry.now) }

@@ -4,7 +4,7 @@ ghost use Rattle.std.specs.Prelude.{◌≡◌, ◌+◌, ◌<◌, ◌≤◌, All,
 ghost use Rattle.isa_model.specs.declared.task.Task.{Task};
 ghost use Rattle.isa_model.specs.TaskPlaces.{IsValidTask};
 ghost use Rattle.core_model.specs.declared.world.World.{World};
-ghost use Rattle.core_model.specs.Limits.{max_tape_words};
+ghost use Rattle.isa_model.specs.Limits.{max_tape_words};
 ghost use Rattle.core_model.specs.Security.{task_in};
 ghost use Rattle.probe_inspect.specs.declared.course.Course.{Course};
 ghost use Rattle.probe_inspect.specs.Rows.{LeavesAt};

@@ -1,4 +1,4 @@
--- It runs this task, and has executed so many instructions as the loop has gone round.
+-- It runs this task, and has executed so many instructions as the loop has come to.
 use Rattle.std.proofs.Common.{◌≡◌}
 use Rattle.probe_inspect.proofs.shown.run_to.Given as goal
 
