@@ -8,8 +8,8 @@ ghost use Rattle.report_text.specs.Explanations.{shown_text, explanation_of, exp
 use crate::append::{add, add_word};
 use crate::log_listing::add_entry;
 use alone_run::Task;
-use probe_inspect::{Shown, explain};
-use probe_log::{Full, Probe, Why};
+use probe_inspect::{Shown, Walk};
+use probe_log::{Packed, Probe, Why};
 use std::alloc::{AllocError, Global};
 
 /// Appends what the undisturbed run shows.
@@ -32,14 +32,20 @@ fn add_shown(shown: Shown, out: &mut Vec<u8>) -> Result<(), AllocError>
 
 /// Appends the line of an entry that isn't public.
 #[tactic(auto, unfolding(crate::specs::Explanations::explanation_of))]
-fn add_explanation(tasks: &[Task], probe: &Probe, out: &mut Vec<u8>) -> Result<(), AllocError>
-    requires valid { AllByRecursion IsValidTask tasks.now }
+fn add_explanation(
+    tasks: &[Task],
+    walk: &mut Walk,
+    probe: &Probe,
+    out: &mut Vec<u8>,
+) -> Result<(), AllocError>
+    requires tasks { walk.old ≡ tasks.now }
+    ensures tasks { walk.new ≡ tasks.now }
     ensures ok { OnOk result (out.new.items ≡ out.old.items ++ explanation_of tasks.now probe.entry.now) }
 {
     if probe.why == Why::Public {
         return Ok(());
     }
-    let shown = explain(*out.allocator(), tasks, probe)?;
+    let shown = walk.explain(*out.allocator(), tasks, probe)?;
     add_entry(probe, out)?;
     add_shown(shown, out)?;
     add(b"\n", out)
@@ -50,15 +56,17 @@ fn add_explanation(tasks: &[Task], probe: &Probe, out: &mut Vec<u8>) -> Result<(
 /// A line is that of the [`listing`](crate::listing), with ` alone %x` at its end for a value and ` alone %x %x` for a step, where
 /// `%x` is eight lower case hexadecimal digits: the value of the latch that the why names after so many instructions, or its values
 /// before and after that instruction. Nothing more follows where the entry is unexplained, or there is no task of its number.
-/// `AllocError` is want of memory.
-pub fn explain_text(alloc: Global, tasks: &[Task], log: &Full) -> Result<Vec<u8>, AllocError>
+/// Each task is run once, and again in parts of fewer than 256 instructions. `AllocError` is want of memory.
+pub fn explain_text(alloc: Global, tasks: &[Task], log: &Packed) -> Result<Vec<u8>, AllocError>
     requires valid { AllByRecursion IsValidTask tasks.now }
     ensures bytes { IfOk result (λ bytes. bytes.items ≡ explain_text_of tasks.now log.now.entries) }
 {
+    let mut walk = Walk::new(alloc, tasks)?;
     let mut text = Vec::new(alloc);
-    for index in 0..log.len() {
-        if let Some(probe) = log.get(index) {
-            add_explanation(tasks, &probe, &mut text)?;
+    let mut reader = log.from_start();
+    for _ in 0..log.len() {
+        if let Some(probe) = reader.next() {
+            add_explanation(tasks, &mut walk, &probe, &mut text)?;
         }
     }
     Ok(text)

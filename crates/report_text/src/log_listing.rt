@@ -5,7 +5,7 @@ ghost use Rattle.report_text.specs.Listing.{side_name, tag_text, why_text, entry
 
 use crate::append::{add, add_count, add_decimal, add_word};
 use leak_latch::{Side, latch_text};
-use probe_log::{Full, Latch, Probe, Why};
+use probe_log::{Latch, Packed, Probe, Why};
 use std::alloc::{AllocError, Global};
 
 /// The name of a side.
@@ -81,12 +81,13 @@ fn add_line(probe: &Probe, out: &mut Vec<u8>) -> Result<(), AllocError>
 /// HART is decimal; PC, WAS and NOW are eight lower case hexadecimal digits; LATCH is the latch's name, as
 /// [`latch_text`](leak_latch::latch_text) writes it. WHY is `public`, `value TASK STEP LATCH was` or `value TASK STEP LATCH now`,
 /// `step TASK STEP LATCH`, or `unexplained`, with decimal numbers. `AllocError` is want of memory.
-pub fn listing(alloc: Global, log: &Full) -> Result<Vec<u8>, AllocError>
+pub fn listing(alloc: Global, log: &Packed) -> Result<Vec<u8>, AllocError>
     ensures bytes { IfOk result (λ bytes. bytes.items ≡ listing_of log.now.entries) }
 {
     let mut text = Vec::new(alloc);
-    for index in 0..log.len() {
-        if let Some(probe) = log.get(index) {
+    let mut reader = log.from_start();
+    for _ in 0..log.len() {
+        if let Some(probe) = reader.next() {
             add_line(&probe, &mut text)?;
         }
     }
