@@ -9,7 +9,7 @@ use Rattle.bundle_text.specs.Lines.{bundle_of}
 use Rattle.bundle_text.specs.declared.bundle.Bundle.{Bundle}
 use Rattle.rv_loader.specs.Loading.{loading_of}
 use Rattle.kernel_cli.specs.declared.command.Command.{Command}
-use Rattle.kernel_cli.specs.declared.command.Command.TheVariants.{Alone, Asm, Run, Script, Replay, Explain, Certify, Gen, Drill}
+use Rattle.kernel_cli.specs.declared.command.Command.TheVariants.{Alone, Asm, Run, Script, Replay, Explain, Certify, Gen, Drill, Lint, LintDrill}
 use Rattle.kernel_cli.specs.declared.status.Status.{Status}
 use Rattle.kernel_cli.specs.declared.status.Status.TheVariants as statuses
 use Rattle.kernel_cli.specs.declared.status.Status.TheVariants.{Fine, BadWords, BadInput, ReadFault, WriteFault, Memory, LogFull}
@@ -25,25 +25,42 @@ use Rattle.probing_laws.specs.declared.verdict.CertFault.TheVariants.{NoWorlds, 
 use Rattle.kernel_cli.specs.declared.answer.Response.{Response}
 use Rattle.kernel_cli.specs.declared.answer.Outcome.{Outcome}
 use Rattle.kernel_cli.specs.declared.answer.Outcome.TheVariants as outcomes
-use Rattle.kernel_cli.specs.Commands.{harts_of, reads_source}
+use Rattle.kernel_cli.specs.Commands.{harts_of, reads_source, reads_bundle}
 use Rattle.kernel_cli.specs.Replays.{order_report}
 use Rattle.kernel_cli.specs.Outcome.{status_of, IsAnswer, IsLoadedFrom, IsRefusedFor}
-use Rattle.kernel_cli.specs.Answer.{Answer, answer_of, input_answer, gen_answer, bundle_answer, loaded_answer, command_answer, verdict_answer, done, too_large, input_limit}
+use Rattle.kernel_cli.specs.Answer.{Answer, answer_of, input_answer, code_answer, gen_answer, bundle_answer, loaded_answer, command_answer, verdict_answer, done, too_large, input_limit}
 use Rattle.kernel_cli.specs.Soundness.{LoadAs}
 use Rattle.kernel_cli.specs.Findings.{Finding, Nothing, Ordered, judgement_in}
 use Rattle.masked_gen.specs.Generator.{generated}
 use Rattle.kernel_cli.specs.Soundness.{AreGeneratedCoresSound, events_by}
-use Rattle.kernel_cli.specs.Drills.{IsDrillOrder}
+use Rattle.core_model.specs.KernelWords.{kernel_code}
+use Rattle.kernel_cli.specs.Drills.{IsDrillOrder, drill_report}
 use Rattle.kernel_cli.proofs.SoundCores.{loads_as}
-use Rattle.kernel_cli.specs.Found.{IsRunOrder, IsFoundIn, IsFound, SecureTasksStaySecure}
-use Rattle.kernel_cli.specs.TopCall.{WereLeft, Answers, AppendsPart, IsCoreSoundFor, BeginsToAnswer, WritesOrFails, IsTooLarge, IsFirstTaskSecure, WasLoaded, IsAnswered}
+use Rattle.kernel_cli.specs.Found.{IsRunOrder, IsFoundIn, Loads, AssembleAs, IsFound, SecureTasksStaySecure}
+use Rattle.kernel_cli.specs.Routines.{IsAnswerOver}
+use Rattle.kernel_cli.specs.TopCall.{WereLeft, Answers, AppendsPart, IsCoreSoundFor, BeginsToAnswer, WritesOrFails, IsTooLarge, IsFirstTaskSecure, WasInput, WasLoaded, IsAnswered}
+
+-- What is found of whatever a bundle loads as is found by a command that reads one.
+bundle_found : (command : Command) (bytes : List ℕ) (found : Finding) → reads_bundle command ≡ true
+    → ((loaded : Loaded) → Loads command bytes loaded → IsFoundIn command loaded found) → IsFound (Some command) bytes found
+bundle_found Alone bytes found reads each = each
+bundle_found Asm bytes found reads each = each
+bundle_found (Run harts) bytes found reads each = each
+bundle_found (Script probes) bytes found reads each = each
+bundle_found (Replay harts probes) bytes found reads each = each
+bundle_found Explain bytes found reads each = each
+bundle_found Certify bytes found reads each = each
+bundle_found (Gen seed tasks) bytes found reads each = each
+bundle_found (Drill seed tasks) bytes found reads each = each
+bundle_found Lint bytes found reads each = absurd (cc reads)
+bundle_found (LintDrill seed tasks) bytes found reads each = absurd (cc reads)
 
 -- Of bytes that load as nothing anything is found.
-none_found : (command : Command) (bytes : List ℕ) → reads_source (Some command) ≡ true → ((loaded : Loaded) → LoadAs (harts_of command) bytes loaded → ⊥) → IsFound (Some command) bytes Nothing
-none_found command bytes reads none = λ loaded l. absurd (none loaded (loads_as command bytes loaded reads l))
+none_found : (command : Command) (bytes : List ℕ) → reads_bundle command ≡ true → ((loaded : Loaded) → LoadAs (harts_of command) bytes loaded → ⊥) → IsFound (Some command) bytes Nothing
+none_found command bytes reads none = bundle_found command bytes Nothing reads (λ loaded l. absurd (none loaded (loads_as command bytes loaded reads l)))
 
--- the answer to a command that reads is that over its input
-reading_answer : (command : Command) (found : Finding) (bytes : List ℕ) → reads_source (Some command) ≡ true
+-- the answer to a command that reads a bundle is that over its input
+reading_answer : (command : Command) (found : Finding) (bytes : List ℕ) → reads_bundle command ≡ true
     → answer_of (Some command) found bytes ≡ input_answer command found bytes
 reading_answer Alone found bytes reads = refl
 reading_answer Asm found bytes reads = refl
@@ -54,17 +71,47 @@ reading_answer Explain found bytes reads = refl
 reading_answer Certify found bytes reads = refl
 reading_answer (Gen seed tasks) found bytes reads = absurd (cc reads)
 reading_answer (Drill seed tasks) found bytes reads = absurd (cc reads)
+reading_answer Lint found bytes reads = absurd (cc reads)
+reading_answer (LintDrill seed tasks) found bytes reads = absurd (cc reads)
 
 -- the answer over more bytes than the limit
 input_refused : (command : Command) (bytes : List ℕ) → input_limit < length bytes → input_answer command Nothing bytes ≡ too_large
 input_refused command bytes over = let test = lt-ltb 4194304 (length bytes) over in rw test refl
 
-is_refused : (command : Command) (bytes : List ℕ) → reads_source (Some command) ≡ true → input_limit < length bytes
-    → answer_of (Some command) Nothing bytes ≡ too_large
-is_refused command bytes reads over = reading_answer command Nothing bytes reads ∙ input_refused command bytes over
+code_refused : (bytes : List ℕ) (answer : Answer) → input_limit < length bytes → code_answer bytes answer ≡ too_large
+code_refused bytes answer over = let test = lt-ltb 4194304 (length bytes) over in rw test refl
 
 too_many_load_as_nothing : (bytes : List ℕ) → input_limit < length bytes → (harts : ℕ) (loaded : Loaded) → LoadAs harts bytes loaded → ⊥
 too_many_load_as_nothing bytes over harts loaded l = let within = l.within in omega (arith, over, within)
+
+too_many_assemble_as_nothing : (bytes : List ℕ) → input_limit < length bytes → (words : List ℕ) → AssembleAs bytes words → ⊥
+too_many_assemble_as_nothing bytes over words l = let within = l.within in omega (arith, over, within)
+
+-- So it is refused, whatever is found.
+abbrev IsRefusedOver : Command → List ℕ → Type 0
+IsRefusedOver command bytes = (answer_of (Some command) Nothing bytes ≡ too_large) × IsFound (Some command) bytes Nothing
+
+bundle_refused_over : (command : Command) (bytes : List ℕ) → reads_bundle command ≡ true → input_limit < length bytes → IsRefusedOver command bytes
+bundle_refused_over command bytes reads over = (
+  reading_answer command Nothing bytes reads ∙ input_refused command bytes over,
+  none_found command bytes reads (λ loaded l. too_many_load_as_nothing bytes over (harts_of command) loaded l),
+)
+
+is_refused : (command : Command) (bytes : List ℕ) → reads_source (Some command) ≡ true → input_limit < length bytes → IsRefusedOver command bytes
+is_refused Alone bytes reads over = bundle_refused_over Alone bytes refl over
+is_refused Asm bytes reads over = bundle_refused_over Asm bytes refl over
+is_refused (Run harts) bytes reads over = bundle_refused_over (Run harts) bytes refl over
+is_refused (Script probes) bytes reads over = bundle_refused_over (Script probes) bytes refl over
+is_refused (Replay harts probes) bytes reads over = bundle_refused_over (Replay harts probes) bytes refl over
+is_refused Explain bytes reads over = bundle_refused_over Explain bytes refl over
+is_refused Certify bytes reads over = bundle_refused_over Certify bytes refl over
+is_refused (Gen seed tasks) bytes reads over = absurd (cc reads)
+is_refused (Drill seed tasks) bytes reads over = absurd (cc reads)
+is_refused Lint bytes reads over = (code_refused bytes _ over, λ words l. absurd (too_many_assemble_as_nothing bytes over words l))
+is_refused (LintDrill seed tasks) bytes reads over = (
+  code_refused bytes _ over,
+  (λ words l. absurd (too_many_assemble_as_nothing bytes over words l), λ parts e. absurd (cc e)),
+)
 
 -- bytes that a source may have had that tells none
 bytes_of_length : (n : ℕ) → (bytes : List ℕ) × (n ≡ length bytes)
@@ -82,13 +129,13 @@ all_written : (command : Command) (left left' held held' : Option (List ℕ)) �
 all_written command left left' held held' reads large a =
     let some = too_many left left' large in
     let is = is_refused command some.0 reads some.2 in
-    (some.0, Nothing, some.1, none_found command some.0 reads (λ loaded l. too_many_load_as_nothing some.0 some.2 (harts_of command) loaded l), ap (λ x. x.status) is, rw is a)
+    (some.0, Nothing, some.1, is.1, ap (λ x. x.status) is.0, rw is.0 a)
 
 part_written : (command : Command) (left left' held held' : Option (List ℕ)) → reads_source (Some command) ≡ true → IsTooLarge left left' → AppendsPart held held' too_large.text → BeginsToAnswer (Some command) left held held'
 part_written command left left' held held' reads large a =
     let some = too_many left left' large in
     let is = is_refused command some.0 reads some.2 in
-    (some.0, Nothing, some.1, none_found command some.0 reads (λ loaded l. too_many_load_as_nothing some.0 some.2 (harts_of command) loaded l), rw is a)
+    (some.0, Nothing, some.1, is.1, rw is.0 a)
 
 -- the refusal was written, or a part of it
 pub answered_too_large : {S K : Type 0} (left : S → Option (List ℕ)) (read_faults : S → ℕ) (held : K → Option (List ℕ)) (write_faults : K → ℕ)
@@ -135,7 +182,7 @@ input_answered : (command : Command) (found : Finding) (bytes : List ℕ) → le
     → input_answer command found bytes ≡ bundle_answer command found (bundle_of bytes)
 input_answered command found bytes within = let test = le-ltb 4194304 (length bytes) within in rw test refl
 
-is_answered_by_bundle : (command : Command) (found : Finding) (bytes : List ℕ) → reads_source (Some command) ≡ true → length bytes ≤ input_limit
+is_answered_by_bundle : (command : Command) (found : Finding) (bytes : List ℕ) → reads_bundle command ≡ true → length bytes ≤ input_limit
     → answer_of (Some command) found bytes ≡ bundle_answer command found (bundle_of bytes)
 is_answered_by_bundle command found bytes reads within = reading_answer command found bytes reads ∙ input_answered command found bytes within
 
@@ -161,7 +208,7 @@ fine_is_secure T worlds (Err (ControlDiffers v w step)) is e = absurd (cc e)
 fine_is_secure T worlds (Err faults.Memory) is e = absurd (cc e)
 
 -- the answer over bytes that load
-loads_answer : (command : Command) (found : Finding) (bytes : List ℕ) (loaded : Loaded) → reads_source (Some command) ≡ true → LoadAs (harts_of command) bytes loaded
+loads_answer : (command : Command) (found : Finding) (bytes : List ℕ) (loaded : Loaded) → reads_bundle command ≡ true → LoadAs (harts_of command) bytes loaded
     → answer_of (Some command) found bytes ≡ command_answer command found loaded
 loads_answer command found bytes loaded reads l =
     is_answered_by_bundle command found bytes reads l.within ∙ ap (λ b. bundle_answer command found b) l.reads ∙ ap (λ x. loaded_answer command found x) l.loads
@@ -223,7 +270,7 @@ answered_by left read_faults held write_faults command src src' sink sink' statu
       taken = taken;
     }
 answered_by left read_faults held write_faults command src src' sink sink' status bytes found answer were finds is kind end taken (inr w) backed =
-    let begun : BeginsToAnswer (Some command) (left src) (held sink) (held sink') =
+    let early_writes : BeginsToAnswer (Some command) (left src) (held sink) (held sink') =
     (bytes, found, were, finds, subst (λ (text : List ℕ). AppendsPart (held sink) (held sink') text) (sym (ap (λ (a : Answer). a.text) is)) w.2) in
     record {
       refused = λ e. absurd cc;
@@ -234,7 +281,7 @@ answered_by left read_faults held write_faults command src src' sink sink' statu
       log_full = λ e. absurd cc;
       verdict = λ e. absurd cc;
       read_fault = λ e. absurd cc;
-      write_fault = λ e. (w.1, begun, λ _. inl end);
+      write_fault = λ e. (w.1, early_writes, λ _. inl end);
       memory = λ e. absurd cc;
       cores_sound = backed.cores;
       certified = λ _ e. absurd cc;
@@ -267,19 +314,30 @@ refused_load_as_nothing harts bytes response r loaded l =
 -- The refusal of the input was written, or a part of it.
 pub answered_refused : {S K : Type 0} (left : S → Option (List ℕ)) (read_faults : S → ℕ) (held : K → Option (List ℕ)) (write_faults : K → ℕ)
     (command : Command) (src src' : S) (sink sink' : K) (status : Status) (bytes : List ℕ) (response : Response)
-    → WereLeft bytes (left src) → length bytes ≤ input_limit → IsAtEnd (left src')
-    → ConsumesAtMost (left src) (left src') (input_limit + 1)
+    → reads_bundle command ≡ true → WasInput (left src) (left src') bytes
     → IsRefusedFor (harts_of command) bytes response
     → WritesOrFails (status_of response.outcome) (held sink) (held sink') (write_faults sink) (write_faults sink') response.text.items status
     → IsBacked command (left src)
     → IsAnswered left read_faults held write_faults (Some command) src src' sink sink' status
-answered_refused left read_faults held write_faults command src src' sink sink' status bytes response were within end taken r written backed =
-    answered_so left read_faults held write_faults command src src' sink sink' status bytes Nothing response (bundle_answer command Nothing (bundle_of bytes)) were
-    (none_found command bytes backed.reads (λ loaded l. refused_load_as_nothing (harts_of command) bytes response r loaded l))
-    (is_answered_by_bundle command Nothing bytes backed.reads within) (r.answer command Nothing refl) end taken written backed
+answered_refused left read_faults held write_faults command src src' sink sink' status bytes response reads was r written backed =
+    answered_so left read_faults held write_faults command src src' sink sink' status bytes Nothing response (bundle_answer command Nothing (bundle_of bytes)) was.were
+    (none_found command bytes reads (λ loaded l. refused_load_as_nothing (harts_of command) bytes response r loaded l))
+    (is_answered_by_bundle command Nothing bytes reads was.within) (r.answer command Nothing refl) was.end was.taken written backed
+
+-- The answer over an input of code was written, or a part of it.
+pub answered_code : {S K : Type 0} (left : S → Option (List ℕ)) (read_faults : S → ℕ) (held : K → Option (List ℕ)) (write_faults : K → ℕ)
+    (command : Command) (src src' : S) (sink sink' : K) (status : Status) (bytes : List ℕ) (response : Response)
+    → WasInput (left src) (left src') bytes
+    → IsAnswerOver command bytes response
+    → WritesOrFails (status_of response.outcome) (held sink) (held sink') (write_faults sink) (write_faults sink') response.text.items status
+    → IsBacked command (left src)
+    → IsAnswered left read_faults held write_faults (Some command) src src' sink sink' status
+answered_code left read_faults held write_faults command src src' sink sink' status bytes response was answer written backed =
+    answered_so left read_faults held write_faults command src src' sink sink' status bytes answer.0 response (answer_of (Some command) answer.0 bytes) was.were
+    answer.1 refl answer.2 was.end was.taken written backed
 
 -- the answer over bytes that were loaded
-is_answered_by_loaded : (command : Command) (found : Finding) (bytes : List ℕ) (loaded : Loaded) → reads_source (Some command) ≡ true → length bytes ≤ input_limit
+is_answered_by_loaded : (command : Command) (found : Finding) (bytes : List ℕ) (loaded : Loaded) → reads_bundle command ≡ true → length bytes ≤ input_limit
     → IsLoadedFrom (harts_of command) bytes loaded → answer_of (Some command) found bytes ≡ command_answer command found loaded
 is_answered_by_loaded command found bytes loaded reads within from =
     is_answered_by_bundle command found bytes reads within ∙ ap (λ b. bundle_answer command found b) from.reads ∙ ap (λ x. loaded_answer command found x) from.loads
@@ -290,23 +348,24 @@ one_loaded harts bytes loaded other from l =
     let bundles : from.bundle ≡ l.bundle = cc (sym from.reads ∙ l.reads) in
     cc (sym from.loads ∙ ap (λ (b : Bundle). loading_of b harts) bundles ∙ l.loads)
 
-found_of : (command : Command) (bytes : List ℕ) (loaded : Loaded) (found : Finding) → reads_source (Some command) ≡ true → IsLoadedFrom (harts_of command) bytes loaded
+found_of : (command : Command) (bytes : List ℕ) (loaded : Loaded) (found : Finding) → reads_bundle command ≡ true → IsLoadedFrom (harts_of command) bytes loaded
     → IsFoundIn command loaded found → IsFound (Some command) bytes found
-found_of command bytes loaded found reads from is = λ other l.
-    subst (λ (x : Loaded). IsFoundIn command x found) (one_loaded (harts_of command) bytes loaded other from (loads_as command bytes other reads l)) is
+found_of command bytes loaded found reads from is = bundle_found command bytes found reads
+    (λ other l. subst (λ (x : Loaded). IsFoundIn command x found) (one_loaded (harts_of command) bytes loaded other from (loads_as command bytes other reads l)) is)
 
 -- The answer over the bundle was written, or a part of it.
 pub answered_loaded : {S K : Type 0} (left : S → Option (List ℕ)) (read_faults : S → ℕ) (held : K → Option (List ℕ)) (write_faults : K → ℕ)
     (command : Command) (src src' : S) (sink sink' : K) (status : Status) (loaded : Loaded) (found : Finding) (response : Response)
+    → reads_bundle command ≡ true
     → WasLoaded (harts_of command) (left src) (left src') loaded
     → IsFoundIn command loaded found
     → IsAnswer response (command_answer command found loaded)
     → WritesOrFails (status_of response.outcome) (held sink) (held sink') (write_faults sink) (write_faults sink') response.text.items status
     → IsBacked command (left src)
     → IsAnswered left read_faults held write_faults (Some command) src src' sink sink' status
-answered_loaded left read_faults held write_faults command src src' sink sink' status loaded found response was finds is written backed =
+answered_loaded left read_faults held write_faults command src src' sink sink' status loaded found response reads was finds is written backed =
     answered_so left read_faults held write_faults command src src' sink sink' status was.bytes found response (command_answer command found loaded) was.were
-    (found_of command was.bytes loaded found backed.reads was.from finds) (is_answered_by_loaded command found was.bytes loaded backed.reads was.within was.from) is was.end was.taken
+    (found_of command was.bytes loaded found reads was.from finds) (is_answered_by_loaded command found was.bytes loaded reads was.within was.from) is was.end was.taken
     written backed
 
 -- The report of a run was written, or a part of it.
@@ -499,8 +558,8 @@ answered_generated left read_faults held write_faults seed tasks src sink sink' 
 pub answered_drilled : {S K : Type 0} (left : S → Option (List ℕ)) (read_faults : S → ℕ) (held : K → Option (List ℕ)) (write_faults : K → ℕ)
     (seed tasks : ℕ) (src : S) (sink sink' : K) (status : Status)
     → AreGeneratedCoresSound → tasks ≤ 32
-    → ((sink' ≡ sink) × (status ≡ Memory)) ⊎ ((loaded : Loaded) × (loading_of (generated seed tasks) 1 ≡ Ok loaded) × (order : List ℕ) × IsDrillOrder loaded order
-    × WritesOrFails Fine (held sink) (held sink') (write_faults sink) (write_faults sink') (order_report loaded order) status)
+    → ((sink' ≡ sink) × (status ≡ Memory)) ⊎ ((loaded : Loaded) × (loading_of (generated seed tasks) 1 ≡ Ok loaded) × (order : List ℕ) × IsDrillOrder kernel_code loaded order
+    × WritesOrFails Fine (held sink) (held sink') (write_faults sink) (write_faults sink') (drill_report kernel_code loaded order) status)
     → IsAnswered left read_faults held write_faults (Some (Drill seed tasks)) src src sink sink' status
 answered_drilled left read_faults held write_faults seed tasks src sink sink' status cores few (inl none) =
     unread_ends left read_faults held write_faults (Drill seed tasks) src sink sink' status refl
@@ -509,7 +568,7 @@ answered_drilled left read_faults held write_faults seed tasks src sink sink' st
     let loaded = written.0 in
     let loads = written.1 in
     let order = written.2 in
-    unread_written left read_faults held write_faults (Drill seed tasks) src sink sink' status (Ordered order) (order_report loaded order) refl
+    unread_written left read_faults held write_faults (Drill seed tasks) src sink sink' status (Ordered order) (drill_report kernel_code loaded order) refl
     (λ runs bytes loaded were loads found. cores seed tasks few loaded loads (events_by (Drill seed tasks) found loaded)) (λ e. cc e)
-    (λ bytes other l. subst (λ (x : Loaded). IsDrillOrder x order) (cc (sym loads ∙ l)) written.3)
+    (λ bytes other l. subst (λ (x : Loaded). IsDrillOrder kernel_code x order) (cc (sym loads ∙ l)) written.3)
     (λ bytes. ap (λ x. loaded_answer (Drill seed tasks) (Ordered order) x) loads) written.4

@@ -5,35 +5,38 @@ use Rattle.std.proofs.lemmas.Fmt.{decimal_digit}
 use Rattle.std.specs.Str.{bytes_eq}
 use Rattle.std.proofs.lemmas.Slice.Eq.{bytes_eq-Decides}
 use Rattle.kernel_cli.specs.declared.command.Command.{Command}
-use Rattle.kernel_cli.specs.declared.command.Command.TheVariants.{Alone, Asm, Run, Script, Replay, Explain, Certify, Gen, Drill}
+use Rattle.kernel_cli.specs.declared.command.Command.TheVariants.{Alone, Asm, Run, Script, Replay, Explain, Certify, Gen, Drill, Lint, LintDrill}
 use Rattle.core_model.proofs.Lists.{some-is}
 use Rattle.timer_plan.specs.Tokens.{IsDecimal}
 use Rattle.bundle_text.specs.Numbers.{decimal_of}
 use Rattle.bundle_text.proofs.RunTokens.{SpellsDecimal, decimal_spelled}
-use Rattle.kernel_cli.specs.Commands.{IsHartCount, IsNumberIn, SpellsCommand, hart_count, run_by, replay_by, within, number_in, gen_by, gen_of, drill_by, drill_of, HasTasks, command_with_probes, command_of, harts_of}
+use Rattle.kernel_cli.specs.Commands.{IsHartCount, IsNumberIn, SpellsCommand, hart_count, run_by, replay_by, within, number_in, gen_by, gen_of, drill_by, drill_of, lint_by, lint_of, HasTasks, command_with_probes, command_of, harts_of}
 
 -- a word that its test says is this one
 is_this : (word this : List ℕ) → bytes_eq word this ≡ true → word ∷ [] ≡ this ∷ []
 is_this word this is = ap (λ w. w ∷ []) ((bytes_eq-Decides word this).0 is)
 
 -- one word, by the tests that decide it
-one_word : (word : List ℕ) (command : Command) (alone asm script explain certify : Bool)
+one_word : (word : List ℕ) (command : Command) (alone asm script explain certify lint : Bool)
     → bytes_eq word (codes "alone") ≡ alone → bytes_eq word (codes "asm") ≡ asm
     → bytes_eq word (codes "script") ≡ script → bytes_eq word (codes "explain") ≡ explain → bytes_eq word (codes "certify") ≡ certify
-    → cond alone (Some Alone) (cond asm (Some Asm) (cond script (Some (Script false)) (cond explain (Some Explain) (cond certify (Some Certify) None))))
-    ≡ Some command
+    → bytes_eq word (codes "lint") ≡ lint
+    → cond alone (Some Alone) (cond asm (Some Asm) (cond script (Some (Script false)) (cond explain (Some Explain) (cond certify (Some Certify)
+    (cond lint (Some Lint) None))))) ≡ Some command
     → SpellsCommand (word ∷ []) command
-one_word word command true asm script explain certify is_alone is_asm is_script is_explain is_certify h =
+one_word word command true asm script explain certify lint is_alone is_asm is_script is_explain is_certify is_lint h =
     subst (λ (c : Command). SpellsCommand (word ∷ []) c) (some-is h) (is_this word (codes "alone") is_alone)
-one_word word command false true script explain certify is_alone is_asm is_script is_explain is_certify h =
+one_word word command false true script explain certify lint is_alone is_asm is_script is_explain is_certify is_lint h =
     subst (λ (c : Command). SpellsCommand (word ∷ []) c) (some-is h) (is_this word (codes "asm") is_asm)
-one_word word command false false true explain certify is_alone is_asm is_script is_explain is_certify h =
+one_word word command false false true explain certify lint is_alone is_asm is_script is_explain is_certify is_lint h =
     subst (λ (c : Command). SpellsCommand (word ∷ []) c) (some-is h) (is_this word (codes "script") is_script)
-one_word word command false false false true certify is_alone is_asm is_script is_explain is_certify h =
+one_word word command false false false true certify lint is_alone is_asm is_script is_explain is_certify is_lint h =
     subst (λ (c : Command). SpellsCommand (word ∷ []) c) (some-is h) (is_this word (codes "explain") is_explain)
-one_word word command false false false false true is_alone is_asm is_script is_explain is_certify h =
+one_word word command false false false false true lint is_alone is_asm is_script is_explain is_certify is_lint h =
     subst (λ (c : Command). SpellsCommand (word ∷ []) c) (some-is h) (is_this word (codes "certify") is_certify)
-one_word word command false false false false false is_alone is_asm is_script is_explain is_certify h = absurd (cc h)
+one_word word command false false false false false true is_alone is_asm is_script is_explain is_certify is_lint h =
+    subst (λ (c : Command). SpellsCommand (word ∷ []) c) (some-is h) (is_this word (codes "lint") is_lint)
+one_word word command false false false false false false is_alone is_asm is_script is_explain is_certify is_lint h = absurd (cc h)
 
 -- the number of harts of a word is that of its digit
 code_spelled : (code harts : ℕ) (above below : Bool) → nat_lt 48 code ≡ above → nat_lt code 57 ≡ below
@@ -156,6 +159,21 @@ drill_spelled detail more command (Some seed) (Some tasks) is_seed is_tasks h =
       tasks_are = number_spelled 2 1 32 tasks more is_tasks;
     })
 
+-- and of its run with a routine of one's own
+lint_spelled : (detail more : List ℕ) (command : Command) (seed tasks : Option ℕ) → number_in 20 0 18446744073709551615 detail ≡ seed
+    → number_in 2 1 32 more ≡ tasks → lint_by seed tasks ≡ Some command → SpellsCommand (codes "lint" ∷ detail ∷ more ∷ []) command
+lint_spelled detail more command None tasks is_seed is_tasks h = absurd (cc h)
+lint_spelled detail more command (Some seed) None is_seed is_tasks h = absurd (cc h)
+lint_spelled detail more command (Some seed) (Some tasks) is_seed is_tasks h =
+    subst (λ (c : Command). SpellsCommand (codes "lint" ∷ detail ∷ more ∷ []) c) (some-is h)
+    (record {
+      seed_word = detail;
+      tasks_word = more;
+      words_are = refl;
+      seed_is = number_spelled 20 0 18446744073709551615 seed detail is_seed;
+      tasks_are = number_spelled 2 1 32 tasks more is_tasks;
+    })
+
 -- two words, by theirs
 two_words : (word detail : List ℕ) (command : Command) (run replay script probes : Bool)
     → bytes_eq word (codes "run") ≡ run → bytes_eq word (codes "replay") ≡ replay
@@ -189,28 +207,32 @@ three_probes word detail more command true true is_replay is_probes h =
 three_probes word detail more command true false is_replay is_probes h = absurd (cc h)
 three_probes word detail more command false probes is_replay is_probes h = absurd (cc h)
 
-three_words : (word detail more : List ℕ) (command : Command) (gen drill : Bool) → bytes_eq word (codes "gen") ≡ gen → bytes_eq word (codes "drill") ≡ drill
-    → cond gen (gen_of detail more) (cond drill (drill_of detail more) (command_with_probes word detail more)) ≡ Some command
+three_words : (word detail more : List ℕ) (command : Command) (gen drill lint : Bool) → bytes_eq word (codes "gen") ≡ gen → bytes_eq word (codes "drill") ≡ drill
+    → bytes_eq word (codes "lint") ≡ lint
+    → cond gen (gen_of detail more) (cond drill (drill_of detail more) (cond lint (lint_of detail more) (command_with_probes word detail more))) ≡ Some command
     → SpellsCommand (word ∷ detail ∷ more ∷ []) command
-three_words word detail more command true drill is is_drill h =
+three_words word detail more command true drill lint is is_drill is_lint h =
     subst (λ w. SpellsCommand (w ∷ detail ∷ more ∷ []) command) (sym ((bytes_eq-Decides word (codes "gen")).0 is))
     (gen_spelled detail more command (number_in 20 0 18446744073709551615 detail) (number_in 2 1 32 more) refl refl h)
-three_words word detail more command false true is is_drill h =
+three_words word detail more command false true lint is is_drill is_lint h =
     subst (λ w. SpellsCommand (w ∷ detail ∷ more ∷ []) command) (sym ((bytes_eq-Decides word (codes "drill")).0 is_drill))
     (drill_spelled detail more command (number_in 20 0 18446744073709551615 detail) (number_in 2 1 32 more) refl refl h)
-three_words word detail more command false false is is_drill h =
+three_words word detail more command false false true is is_drill is_lint h =
+    subst (λ w. SpellsCommand (w ∷ detail ∷ more ∷ []) command) (sym ((bytes_eq-Decides word (codes "lint")).0 is_lint))
+    (lint_spelled detail more command (number_in 20 0 18446744073709551615 detail) (number_in 2 1 32 more) refl refl h)
+three_words word detail more command false false false is is_drill is_lint h =
     three_probes word detail more command (bytes_eq word (codes "replay")) (bytes_eq more (codes "probes")) refl refl h
 
 pub decided_spelled : (words : List (List ℕ)) (command : Command) → command_of words ≡ Some command → SpellsCommand words command
 decided_spelled [] command h = absurd cc
 decided_spelled (word ∷ []) command h =
     one_word word command (bytes_eq word (codes "alone")) (bytes_eq word (codes "asm")) (bytes_eq word (codes "script")) (bytes_eq word (codes "explain"))
-    (bytes_eq word (codes "certify")) refl refl refl refl refl h
+    (bytes_eq word (codes "certify")) (bytes_eq word (codes "lint")) refl refl refl refl refl refl h
 decided_spelled (word ∷ detail ∷ []) command h =
     two_words word detail command (bytes_eq word (codes "run")) (bytes_eq word (codes "replay")) (bytes_eq word (codes "script"))
     (bytes_eq detail (codes "probes")) refl refl refl refl h
 decided_spelled (word ∷ detail ∷ more ∷ []) command h =
-    three_words word detail more command (bytes_eq word (codes "gen")) (bytes_eq word (codes "drill")) refl refl h
+    three_words word detail more command (bytes_eq word (codes "gen")) (bytes_eq word (codes "drill")) (bytes_eq word (codes "lint")) refl refl refl h
 decided_spelled (word ∷ detail ∷ more ∷ next ∷ others) command h = absurd cc
 
 pub spelled_decided : (words : List (List ℕ)) (command : Command) → SpellsCommand words command → command_of words ≡ Some command
@@ -227,6 +249,11 @@ spelled_decided words (Drill seed tasks) h =
     ap command_of h.words_are
     ∙ ap (λ (o : Option ℕ). drill_by o (number_in 2 1 32 h.tasks_word)) (spelled_number 20 0 18446744073709551615 seed h.seed_word h.seed_is)
     ∙ ap (λ (o : Option ℕ). drill_by (Some seed) o) (spelled_number 2 1 32 tasks h.tasks_word h.tasks_are)
+spelled_decided words Lint h = ap command_of h
+spelled_decided words (LintDrill seed tasks) h =
+    ap command_of h.words_are
+    ∙ ap (λ (o : Option ℕ). lint_by o (number_in 2 1 32 h.tasks_word)) (spelled_number 20 0 18446744073709551615 seed h.seed_word h.seed_is)
+    ∙ ap (λ (o : Option ℕ). lint_by (Some seed) o) (spelled_number 2 1 32 tasks h.tasks_word h.tasks_are)
 spelled_decided words (Gen seed tasks) h =
     ap command_of h.words_are
     ∙ ap (λ (o : Option ℕ). gen_by o (number_in 2 1 32 h.tasks_word)) (spelled_number 20 0 18446744073709551615 seed h.seed_word h.seed_is)
@@ -244,6 +271,8 @@ spelled_harts words Explain h = (omega arith, omega arith)
 spelled_harts words Certify h = (omega arith, omega arith)
 spelled_harts words (Gen seed tasks) h = (omega arith, omega arith)
 spelled_harts words (Drill seed tasks) h = (omega arith, omega arith)
+spelled_harts words Lint h = (omega arith, omega arith)
+spelled_harts words (LintDrill seed tasks) h = (omega arith, omega arith)
 
 -- Four words or more are no command.
 pub many_words : {A : Type 0} (f : A → List ℕ) (words : List A) → 4 ≤ length words → None ≡ command_of (map f words)
@@ -264,3 +293,5 @@ spelled_tasks words Explain h = tt
 spelled_tasks words Certify h = tt
 spelled_tasks words (Gen seed tasks) h = tt
 spelled_tasks words (Drill seed tasks) h = (h.tasks_are.least, h.tasks_are.greatest)
+spelled_tasks words Lint h = tt
+spelled_tasks words (LintDrill seed tasks) h = (h.tasks_are.least, h.tasks_are.greatest)

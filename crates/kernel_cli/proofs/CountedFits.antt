@@ -16,14 +16,15 @@ use Rattle.order_laws.specs.Judging.{is_legal_entry, end_from}
 use Rattle.order_laws.proofs.AsEvents.{steps-core}
 use Rattle.order_laws.proofs.LegalOrders.{coarse-kept, entries-few}
 use Rattle.order_laws.proofs.Judged.{test-legal, end-illegal, end-passes}
+use Rattle.kernel_core.proofs.HistoryMore.{event-same}
 use Rattle.kernel_cli.specs.Replays.{replay_end}
-use Rattle.kernel_cli.proofs.CoreFacts.{without_log, event_log}
 
 -- No event makes the log shorter.
 event_longer : (code : List ℕ) (c : CoreState) (event : Event) → length c.log ≤ length (after_event code c event).log
 event_longer code c event =
-    let made = (after_event code (without_log c) event).log in
-    let e : length (after_event code c event).log ≡ length c.log + length made = ap length (event_log code c event) ∙ length-append c.log made in
+    let made = (after_event code (record c { log = [] }) event).log in
+    let e : length (after_event code c event).log ≡ length c.log + length made =
+    ap length (event-same code c event).log_is ∙ length-append c.log made in
     omega (arith, e)
 
 longer : (code : List ℕ) (c : CoreState) (events : List Event) → length c.log ≤ length (core_from code c events).log

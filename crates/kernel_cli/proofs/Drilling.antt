@@ -3,36 +3,37 @@ use Rattle.std.proofs.Common.{◌≡◌, ℕ, ◌+◌, ◌^◌, ◌<◌, ◌≤�
 use Rattle.std.specs.List.{AllByRecursion}
 use Rattle.hart_model.specs.declared.probe.Probe.{Probe}
 use Rattle.core_model.specs.declared.loaded.Loaded.{Loaded}
-use Rattle.core_model.specs.KernelWords.{kernel_code}
 use Rattle.core_model.specs.Core.{core_from}
 use Rattle.core_model.specs.Orders.{CoarseState, boot_pace, boot_coarse, max_steps, fine_from, IsLegalEntry, IsLegal, IsLegalFrom}
-use Rattle.core_invariant.specs.KernelStates.{emitted_parts}
+use Rattle.core_invariant.specs.KernelStates.{KernelParts}
 use Rattle.order_laws.specs.CoarseRuns.{coarse_from, coarse_state}
 use Rattle.order_laws.proofs.AsEvents.{coarse-states}
 use Rattle.order_laws.proofs.LegalOrders.{boards-tell, legal-orders}
 use Rattle.order_laws.proofs.Judged.{legal-more}
-use Rattle.std.specs.Prelude.{None}
+use Rattle.std.specs.Prelude.{None, Vec, Result, Ok, Err, IfOk}
+use Rattle.std.specs.declared.alloc.Global.{Global}
+use Rattle.std.specs.declared.alloc.AllocError.{AllocError}
+use Rattle.core_model.specs.KernelWords.{KernelCodeState}
 use Rattle.kernel_core.specs.History.{CoreValue, core_of}
-use Rattle.kernel_core.specs.PacedHistory.{PacedHistory, IsPacedCoreOf, acted, next_steps_of, next_entries_of, paced_at_boot, stopped_seat, has_stopped_at}
+use Rattle.kernel_core.specs.PacedHistory.{PacedHistory, IsPacedCoreOf, acted, next_steps_of, next_entries_of, paced_at_boot, ordered, stopped_seat, has_stopped_at}
 use Rattle.kernel_core.proofs.PacedSeats.{item-at, hart-count}
 use Rattle.kernel_core.proofs.PacedOrders.{orders-grow}
 use Rattle.kernel_core.proofs.PacedSteps.{told-is-stepped}
-use Rattle.kernel_cli.specs.Playing.{told_order}
-use Rattle.kernel_cli.specs.Drills.{IsDrilling, IsDrilled}
+use Rattle.kernel_cli.specs.Drills.{IsDrillOrder, drill_report, IsDrilling, IsDrilled}
 
 alone_more : (order : List ℕ) → AllByRecursion (λ hart. hart ≡ 0) order → AllByRecursion (λ hart. hart ≡ 0) (order ++ 0 ∷ [])
 alone_more [] each = (refl, tt)
 alone_more (hart ∷ order) each = (each.0, alone_more order each.1)
 
-module _ {K : Type 0} (stands : K → List Probe → Type 0) (room_of : K → ℕ) (loaded : Loaded) (one : loaded.harts ≡ 1) where
-  pub boots : (keeper : K) (c : CoreValue K) → IsPacedCoreOf (paced_at_boot loaded emitted_parts) c → c.log.keeper ≡ keeper → stands keeper []
-      → c.run.actions ≡ 1048576 → 2 ^ 64 ≤ room_of keeper + 1 → IsDrilling stands room_of loaded [] c
+module _ {K : Type 0} (stands : K → List Probe → Type 0) (room_of : K → ℕ) (kernel : KernelParts) (loaded : Loaded) (one : loaded.harts ≡ 1) where
+  pub boots : (keeper : K) (c : CoreValue K) → IsPacedCoreOf (paced_at_boot loaded kernel) c → c.log.keeper ≡ keeper → stands keeper []
+      → c.run.actions ≡ 1048576 → 2 ^ 64 ≤ room_of keeper + 1 → IsDrilling stands room_of kernel loaded [] c
   unfolding core_from fine_from coarse_from IsLegalFrom
   boots keeper c core kept nothing actions room =
       let Q : K → Type 0 = λ k. stands k [] in
       let e : room_of c.log.keeper ≡ room_of keeper = ap room_of kept in
       record {
-        core = subst (λ (t : PacedHistory). IsPacedCoreOf t c) (sym (orders-grow.none loaded emitted_parts)) core;
+        core = subst (λ (t : PacedHistory). IsPacedCoreOf t c) (sym (orders-grow.none loaded kernel)) core;
         legal = tt;
         alone = tt;
         keeper = subst Q (sym kept) nothing;
@@ -40,15 +41,15 @@ module _ {K : Type 0} (stands : K → List Probe → Type 0) (room_of : K → �
         room = omega (arith, e, room);
       }
 
-  module _ (done : List ℕ) (c : CoreValue K) (s : IsDrilling stands room_of loaded done c) where
+  module _ (done : List ℕ) (c : CoreValue K) (s : IsDrilling stands room_of kernel loaded done c) where
     abbrev co : CoarseState
-    co = coarse_state loaded kernel_code done
+    co = coarse_state loaded kernel.code done
 
     abbrev told : PacedHistory
-    told = told_order loaded done
+    told = ordered loaded kernel done
 
     core_is : co.core ≡ core_of told.history
-    core_is = coarse-states loaded kernel_code done
+    core_is = coarse-states loaded kernel.code done
 
     pub exists : 0 < length c.run.harts
     exists = let count = hart-count told c s.core in omega (arith, count, one)
@@ -68,12 +69,12 @@ module _ {K : Type 0} (stands : K → List Probe → Type 0) (room_of : K → �
         record { exists = omega (arith, low, same); goes_on = sym stopped_is ∙ goes }
 
     -- one entry more is legal, so it is one of at most so many
-    legal_next : has_stopped_at c 0 ≡ false → IsLegal loaded kernel_code (done ++ 0 ∷ [])
-    legal_next goes = legal-more None kernel_code.words loaded.plans (boot_coarse loaded kernel_code) done 0 s.legal (legal_now goes)
+    legal_next : has_stopped_at c 0 ≡ false → IsLegal loaded kernel.code (done ++ 0 ∷ [])
+    legal_next goes = legal-more None kernel.code.words loaded.plans (boot_coarse loaded kernel.code) done 0 s.legal (legal_now goes)
 
     pub few : has_stopped_at c 0 ≡ false → length done < 1048576
     few goes =
-        let bounded = legal-orders emitted_parts s.core.core.is_kernel.kernel loaded s.core.core.is_loaded (done ++ 0 ∷ []) (legal_next goes) in
+        let bounded = legal-orders kernel s.core.core.is_kernel.kernel loaded s.core.core.is_loaded (done ++ 0 ∷ []) (legal_next goes) in
         let more : length (done ++ 0 ∷ []) ≡ length done + 1 = length-append done (0 ∷ []) in
         let most = s.core.core.is_loaded.bound in
         omega (arith, bounded, more, most)
@@ -81,7 +82,7 @@ module _ {K : Type 0} (stands : K → List Probe → Type 0) (room_of : K → �
     pub order_is : length c.run.board.lists.order ≡ length done
     order_is =
         let order : (core_of told.history).board.order ≡ done =
-        boards-tell emitted_parts s.core.core.is_kernel.kernel loaded s.core.core.is_loaded done s.legal in
+        boards-tell kernel s.core.core.is_kernel.kernel loaded s.core.core.is_loaded done s.legal in
         ap (λ b. length b.order) s.core.core.board ∙ ap length order
 
     pub has_actions : has_stopped_at c 0 ≡ false → length c.run.board.lists.order < c.run.actions
@@ -102,12 +103,12 @@ module _ {K : Type 0} (stands : K → List Probe → Type 0) (room_of : K → �
         → ((before : List Probe) → stands c.log.keeper before → stands after.log.keeper (before ++ next_entries_of told 0 max_steps))
         → after.run.actions ≡ c.run.actions
         → room_of c.log.keeper ≤ room_of after.log.keeper + 30000
-        → IsDrilling stands room_of loaded (done ++ 0 ∷ []) after
+        → IsDrilling stands room_of kernel loaded (done ++ 0 ∷ []) after
     goes_on after goes is keeper actions room =
         let next = done ++ 0 ∷ [] in
-        let grows : acted told 0 ≡ told_order loaded next = orders-grow.more loaded emitted_parts done 0 in
+        let grows : acted told 0 ≡ ordered loaded kernel next = orders-grow.more loaded kernel done 0 in
         let core : core_of (acted told 0).history ≡ (next_steps_of told 0 max_steps).core = told-is-stepped.core told 0 max_steps in
-        let log : (core_of (told_order loaded next).history).log ≡ (core_of told.history).log ++ next_entries_of told 0 max_steps =
+        let log : (core_of (ordered loaded kernel next).history).log ≡ (core_of told.history).log ++ next_entries_of told 0 max_steps =
         ap (λ (t : PacedHistory). (core_of t.history).log) (sym grows) ∙ ap (λ k. k.log) core ∙ told-is-stepped.log told 0 max_steps in
         let fits = s.room in
         let more : length next ≡ length done + 1 = length-append done (0 ∷ []) in
@@ -120,9 +121,17 @@ module _ {K : Type 0} (stands : K → List Probe → Type 0) (room_of : K → �
           room = omega (arith, fits, more, room);
         }
 
-    pub ends : has_stopped_at c 0 ≡ true → IsDrilled stands loaded c
+    pub ends : has_stopped_at c 0 ≡ true → IsDrilled stands kernel loaded c
     ends stop = record {
       order = done;
       is = record { legal = s.legal; alone = s.alone; stopped = sym stopped_is ∙ stop };
-      played = record { core = s.core.core; keeper = s.keeper };
+      core = s.core.core;
+      keeper = s.keeper;
     }
+
+-- the text of the report of a drill, if there is one
+pub drilled_text : (text : Result (Vec ℕ Global) AllocError) (code : KernelCodeState) (loaded : Loaded) (order : List ℕ) → IsDrillOrder code loaded order
+    → IfOk text (λ written. written.items ≡ drill_report code loaded order)
+    → IfOk text (λ written. (order : List ℕ) × IsDrillOrder code loaded order × (written.items ≡ drill_report code loaded order))
+drilled_text (Ok written) code loaded order is e = (order, is, e)
+drilled_text (Err error) code loaded order is e = tt

@@ -4,6 +4,7 @@ pub mod ScriptFits
 pub mod Playing
 pub mod Along
 pub mod Drilling
+pub mod Linting
 pub mod CountedFits
 pub mod Reporting
 pub mod FullLogs

@@ -10,15 +10,17 @@ use Rattle.core_model.specs.declared.event.EventRun.{EventRun}
 use Rattle.core_model.specs.declared.loaded.Loaded.{Loaded}
 use Rattle.core_model.specs.Events.{hart_of, events_of, event_count, CountsAreLengths}
 use Rattle.core_model.specs.KernelWords.{kernel_code}
-use Rattle.core_model.specs.Limits.{max_harts}
+use Rattle.isa_model.specs.Limits.{max_harts}
 use Rattle.core_model.specs.Loaded.{IsEventRunWithinLimits}
 use Rattle.core_model.specs.Core.{CoreState, boot_core, after_event, core_from}
 use Rattle.kernel_core.specs.Running.{entries_of}
 use Rattle.kernel_core.specs.History.{History, CoreValue, IsCoreOf, given}
 use Rattle.order_laws.specs.LongLogs.{is_log_above}
+use Rattle.core_invariant.proofs.Events.{core-more}
+use Rattle.kernel_core.proofs.HistoryMore.{entries-told}
 use Rattle.kernel_cli.specs.Scripts.{entries_each, is_script_above}
 use Rattle.kernel_cli.specs.Playing.{told_of, core_by, IsPlayed, StandsBefore}
-use Rattle.kernel_cli.proofs.CoreFacts.{without_log, from_append, event_log, events_harts, boot_harts, events_order}
+use Rattle.kernel_cli.proofs.CoreFacts.{events_harts, boot_harts, events_order}
 
 -- The harts of all events exist.
 low_times : (n : ℕ) (event : Event) → hart_of event < max_harts → AllByRecursion (λ e. hart_of e < max_harts) (replicate n event)
@@ -45,19 +47,12 @@ one_of (suc n) event some = let e : suc n - 1 ≡ n = omega arith in rw e refl
 
 -- the core after one event more
 next_core : (loaded : Loaded) (done : List Event) (event : Event) → core_by loaded (done ++ event ∷ []) ≡ after_event kernel_code.words (core_by loaded done) event
-unfolding core_from
-next_core loaded done event = from_append kernel_code.words (boot_core loaded kernel_code) done (event ∷ [])
+next_core loaded done event = core-more kernel_code.words (boot_core loaded kernel_code) done event
 
 -- its log
 next_log : {K : Type 0} (loaded : Loaded) (c : CoreValue K) (done : List Event) (event : Event) → IsCoreOf (told_of loaded done) c
     → (core_by loaded (done ++ event ∷ [])).log ≡ (core_by loaded done).log ++ entries_of c.run event
-next_log loaded c done event core =
-    let kernel : c.run.kernel.code.words ≡ kernel_code.words = ap (λ k. k.code.words) core.kernel in
-    let same : entries_of c.run event ≡ (after_event kernel_code.words (without_log (core_by loaded done)) event).log =
-    rw kernel (rw core.board (rw core.harts refl)) in
-    let grows : (core_by loaded (done ++ event ∷ [])).log ≡ (core_by loaded done).log ++ (after_event kernel_code.words (without_log (core_by loaded done)) event).log =
-    ap (λ k. k.log) (next_core loaded done event) ∙ event_log kernel_code.words (core_by loaded done) event in
-    grows ∙ ap (λ es. (core_by loaded done).log ++ es) (sym same)
+next_log loaded c done event core = sym (entries-told (told_of loaded done) event c c core)
 
 -- where there is room the log isn't above
 log_fits : (most room log : ℕ) → room + log ≡ most + entries_each → entries_each ≤ room → nat_lt most log ≡ false

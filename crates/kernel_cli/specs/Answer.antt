@@ -1,22 +1,24 @@
--- The answer to a command over the bytes of its input, and over what it finds beside them: a status and a text. Only `run` and `certify` find
--- something (`Found`), and the answer to `gen` doesn't hang on the bytes. It is a function, so it says of each of its statuses exactly where it comes:
+-- The answer to a command over the bytes of its input, and over what it finds beside them: a status and a text. `run` and `drill` find an order,
+-- `certify` a verdict, `lint` what holds of a routine, and `lint SEED N` an order too (`Found`); the other commands find nothing. The answers to
+-- `gen` and `drill` don't hang on the bytes. It is a function, so it says of each of its statuses exactly where it comes:
 --
 -- - BadWords, with `bad words`: exactly where there is no command.
 -- - BadInput: exactly where the input is refused. In this order, `too large` where it has more bytes than the limit; a line that
 --   isn't of the form of a bundle; a line of code that doesn't assemble; a number outside its limits; a plan for a hart that
 --   isn't there; a run that may be too long; for `replay` an entry of the order that isn't legal; for `certify` no worlds, too many of them,
---   or secrets with different numbers of them.
+--   or secrets with different numbers of them. Of `lint`: `too large`; a line with a byte that isn't of text; a line that doesn't assemble.
 -- - LogFull, with `log full`: exactly where a command that keeps the log has no room for the next event. Whichever of this and of an entry
 --   that isn't legal the run by an order comes to first is its answer.
--- - Verdict, with the line that says so: of `certify` alone, where two worlds take different courses, and where a latch write tells something of
---   the secret.
+-- - Verdict, with the line that says so: of `certify`, exactly where two worlds take different courses, and where a latch write tells something
+--   of the secret; and of `lint`, exactly where the words break a rule.
 -- - Fine, with the text of the command: everywhere else.
-use Rattle.std.specs.Prelude.{ℕ, true, false, List, ◌++◌, Option, Some, None, Result, Ok, Err, codes, length, nat_lt, if◌then◌else◌}
+use Rattle.std.specs.Prelude.{ℕ, true, false, List, [], ◌++◌, Option, Some, None, Result, Ok, Err, codes, length, nat_lt, if◌then◌else◌}
 use Rattle.core_model.specs.declared.loaded.Loaded.{Loaded}
 use Rattle.bundle_text.specs.Lines.{bundle_of}
 use Rattle.bundle_text.specs.Text.{text_of}
 use Rattle.bundle_text.specs.declared.bundle.Bundle.{Bundle}
 use Rattle.bundle_text.specs.declared.bundle.BundleFault.{BundleFault}
+use Rattle.core_model.specs.KernelWords.{kernel_code, linked_code}
 use Rattle.masked_gen.specs.Generator.{generated}
 use Rattle.rv_loader.specs.declared.fault.LoadFault.{LoadFault}
 use Rattle.rv_loader.specs.Loading.{loading_of}
@@ -32,7 +34,11 @@ use Rattle.probing_laws.specs.declared.verdict.CertFault.{CertFault}
 use Rattle.probing_laws.specs.declared.verdict.CertFault.TheVariants.{ControlDiffers}
 use Rattle.report_text.specs.VerdictText.{verdict_text_of, cert_fault_text_of}
 use Rattle.kernel_cli.specs.Commands.{harts_of}
-use Rattle.kernel_cli.specs.Findings.{Finding, order_in, judgement_in}
+use Rattle.scrub_rules.specs.Parts.{Parts}
+use Rattle.scrub_rules.specs.declared.rule.RuleFault.{RuleFault}
+use Rattle.kernel_cli.specs.Drills.{drill_report}
+use Rattle.kernel_cli.specs.Lints.{words_in, accepted_text, refused_text}
+use Rattle.kernel_cli.specs.Findings.{Finding, order_in, judgement_in, routine_in}
 use Rattle.kernel_cli.specs.Scripts.{most_before, script_report, script_log, is_log_full}
 use Rattle.kernel_cli.specs.Replays.{order_report, replay_report, replay_log, replay_end}
 use Rattle.kernel_cli.specs.Refusals.{bundle_refusal, load_refusal, order_refusal}
@@ -115,7 +121,10 @@ command_answer (commands.Replay harts true) found loaded =
 command_answer commands.Explain found loaded = answer_of_text (explanations_text loaded)
 command_answer commands.Certify found loaded = verdict_answer (judgement_in found)
 command_answer (commands.Gen seed tasks) found loaded = gen_answer seed tasks
-command_answer (commands.Drill seed tasks) found loaded = done (order_report loaded (order_in found))
+command_answer (commands.Drill seed tasks) found loaded = done (drill_report kernel_code loaded (order_in found))
+-- `lint` reads no bundle
+command_answer commands.Lint found loaded = done []
+command_answer (commands.LintDrill seed tasks) found loaded = done []
 
 abbrev pub loaded_answer : Command → Finding → Result Loaded LoadFault → Answer
 loaded_answer command found (Ok loaded) = command_answer command found loaded
@@ -129,8 +138,40 @@ abbrev pub input_answer : Command → Finding → List ℕ → Answer
 input_answer command found bytes =
     if nat_lt input_limit (length bytes) then too_large else bundle_answer command found (bundle_of bytes)
 
+-- the line of an accepted routine
+abbrev pub routine_accepted : Parts → List ℕ
+routine_accepted parts = accepted_text (length parts.save) (length parts.restore)
+
+-- the answer of a routine: that it is accepted, which answers so, or the first rule that it breaks
+abbrev pub routine_answer : (Parts → Answer) → Result Parts RuleFault → Answer
+routine_answer accepted (Ok parts) = accepted parts
+routine_answer accepted (Err fault) = judged (refused_text fault)
+
+-- that it is accepted, and the report of a loaded bundle under the kernel with these parts, after an order
+abbrev pub drilled_answer : Parts → List ℕ → Result Loaded LoadFault → Answer
+drilled_answer parts order (Ok loaded) = done (routine_accepted parts ++ drill_report (linked_code parts.save parts.restore) loaded order)
+drilled_answer parts order (Err fault) = refused (load_refusal fault)
+
+-- the answer of words, or the line that refuses the input
+abbrev pub words_answer : Result (List ℕ) (List ℕ) → Answer → Answer
+words_answer (Ok words) answer = answer
+words_answer (Err text) answer = refused text
+
+-- the answer over an input of lines of code
+abbrev pub code_answer : List ℕ → Answer → Answer
+code_answer bytes answer = if nat_lt input_limit (length bytes) then too_large else words_answer (words_in bytes) answer
+
+abbrev pub lint_answer : Finding → List ℕ → Answer
+lint_answer found bytes = code_answer bytes (routine_answer (λ parts. done (routine_accepted parts)) (routine_in found))
+
+abbrev pub lint_drill_answer : ℕ → ℕ → Finding → List ℕ → Answer
+lint_drill_answer seed tasks found bytes =
+    code_answer bytes (routine_answer (λ parts. drilled_answer parts (order_in found) (loading_of (generated seed tasks) 1)) (routine_in found))
+
 abbrev pub answer_of : Option Command → Finding → List ℕ → Answer
 answer_of None found bytes = words_refused
 answer_of (Some (commands.Gen seed tasks)) found bytes = gen_answer seed tasks
 answer_of (Some (commands.Drill seed tasks)) found bytes = loaded_answer (commands.Drill seed tasks) found (loading_of (generated seed tasks) 1)
+answer_of (Some commands.Lint) found bytes = lint_answer found bytes
+answer_of (Some (commands.LintDrill seed tasks)) found bytes = lint_drill_answer seed tasks found bytes
 answer_of (Some command) found bytes = input_answer command found bytes

@@ -1,10 +1,10 @@
 -- The words of the command line, and the command that they are.
-use Rattle.std.specs.Prelude.{◌≡◌, ℕ, ◌-◌, ◌≤◌, Bool, true, false, ◌&&◌, ⊤, List, [], ◌∷◌, Option, Some, None, length, codes, decimal, nat_lt, nat_le, if◌then◌else◌}
+use Rattle.std.specs.Prelude.{◌≡◌, ℕ, ◌-◌, ◌≤◌, Bool, true, false, ◌&&◌, not, ⊤, List, [], ◌∷◌, Option, Some, None, length, codes, decimal, nat_lt, nat_le, if◌then◌else◌}
 use Rattle.std.specs.Str.{bytes_eq}
 use Rattle.timer_plan.specs.Tokens.{IsDecimal}
 use Rattle.bundle_text.specs.Numbers.{decimal_of}
 use Rattle.kernel_cli.specs.declared.command.Command.{Command}
-use Rattle.kernel_cli.specs.declared.command.Command.TheVariants.{Alone, Asm, Run, Script, Replay, Explain, Certify, Gen, Drill}
+use Rattle.kernel_cli.specs.declared.command.Command.TheVariants.{Alone, Asm, Run, Script, Replay, Explain, Certify, Gen, Drill, Lint, LintDrill}
 
 -- how many harts a command may ask for
 abbrev pub IsHartCount : ℕ → Type 0
@@ -33,8 +33,8 @@ pub record SpellsNumbers (name : List ℕ) (words : List (List ℕ)) (seed tasks
   pub seed_is : IsSeed seed_word seed
   pub tasks_are : IsTaskCount tasks_word tasks
 
--- The words spell this command. A number of harts is one decimal digit, so each command has one spelling, but for `gen` and `drill`, whose
--- numbers may begin with zeros.
+-- The words spell this command. A number of harts is one decimal digit, so each command has one spelling, but for those with a seed and a
+-- number of tasks, which may begin with zeros.
 abbrev pub SpellsCommand : List (List ℕ) → Command → Type 0
 SpellsCommand words Alone = words ≡ codes "alone" ∷ []
 SpellsCommand words Asm = words ≡ codes "asm" ∷ []
@@ -47,6 +47,8 @@ SpellsCommand words Explain = words ≡ codes "explain" ∷ []
 SpellsCommand words Certify = words ≡ codes "certify" ∷ []
 SpellsCommand words (Gen seed tasks) = SpellsNumbers (codes "gen") words seed tasks
 SpellsCommand words (Drill seed tasks) = SpellsNumbers (codes "drill") words seed tasks
+SpellsCommand words Lint = words ≡ codes "lint" ∷ []
+SpellsCommand words (LintDrill seed tasks) = SpellsNumbers (codes "lint") words seed tasks
 
 -- the command of one word
 abbrev pub command_named : List ℕ → Option Command
@@ -56,6 +58,7 @@ command_named word =
     else if bytes_eq word (codes "script") then Some (Script false)
     else if bytes_eq word (codes "explain") then Some Explain
     else if bytes_eq word (codes "certify") then Some Certify
+    else if bytes_eq word (codes "lint") then Some Lint
     else None
 
 -- the number of harts of a word: of `1` to `8`, whose codes are 49 to 56
@@ -110,6 +113,15 @@ drill_by (Some seed) (Some tasks) = Some (Drill seed tasks)
 abbrev pub drill_of : List ℕ → List ℕ → Option Command
 drill_of seed tasks = drill_by (number_in 20 0 18446744073709551615 seed) (number_in 2 1 32 tasks)
 
+-- and its run with a routine of one's own
+abbrev pub lint_by : Option ℕ → Option ℕ → Option Command
+lint_by None tasks = None
+lint_by (Some seed) None = None
+lint_by (Some seed) (Some tasks) = Some (LintDrill seed tasks)
+
+abbrev pub lint_of : List ℕ → List ℕ → Option Command
+lint_of seed tasks = lint_by (number_in 20 0 18446744073709551615 seed) (number_in 2 1 32 tasks)
+
 -- the command of three words of which the last is `probes`
 abbrev pub command_with_probes : List ℕ → List ℕ → List ℕ → Option Command
 command_with_probes word detail more =
@@ -120,6 +132,7 @@ abbrev pub command_of_three : List ℕ → List ℕ → List ℕ → Option Comm
 command_of_three word detail more =
     if bytes_eq word (codes "gen") then gen_of detail more
     else if bytes_eq word (codes "drill") then drill_of detail more
+    else if bytes_eq word (codes "lint") then lint_of detail more
     else command_with_probes word detail more
 
 -- the command of the words, if they spell one
@@ -134,6 +147,7 @@ abbrev pub harts_of : Command → ℕ
 harts_of (Run harts) = harts
 harts_of (Replay harts probes) = harts
 harts_of (Drill seed tasks) = 1
+harts_of (LintDrill seed tasks) = 1
 harts_of command = 8
 
 -- whether a command reads the source; words that are no command don't
@@ -142,6 +156,15 @@ reads_source None = false
 reads_source (Some (Gen seed tasks)) = false
 reads_source (Some (Drill seed tasks)) = false
 reads_source (Some command) = true
+
+-- whether it reads lines of code there, and whether a bundle
+abbrev pub reads_code : Command → Bool
+reads_code Lint = true
+reads_code (LintDrill seed tasks) = true
+reads_code command = false
+
+abbrev pub reads_bundle : Command → Bool
+reads_bundle command = reads_source (Some command) && not (reads_code command)
 
 -- The command of the words, if one thread does it, and if threads do it, one for each hart.
 abbrev pub served_by_one : Option Command → Option Command
@@ -162,4 +185,5 @@ finds_nothing command = true
 -- a command that runs the bundle of a number runs one of 1 to 32 tasks
 abbrev pub HasTasks : Command → Type 0
 HasTasks (Drill seed tasks) = (1 ≤ tasks) × (tasks ≤ 32)
+HasTasks (LintDrill seed tasks) = (1 ≤ tasks) × (tasks ≤ 32)
 HasTasks command = ⊤

@@ -7,8 +7,10 @@ pub mod Replays
 pub mod Findings
 pub mod Playing
 pub mod Drills
+pub mod Lints
 pub mod Answer
 pub mod Soundness
 pub mod Found
 pub mod Outcome
+pub mod Routines
 pub mod TopCall

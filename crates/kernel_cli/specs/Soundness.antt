@@ -3,7 +3,7 @@ use Rattle.std.specs.Prelude.{◌≡◌, ℕ, ◌≤◌, ⊤, List, length, take
 use Rattle.core_model.specs.declared.event.Event.{Event}
 use Rattle.core_model.specs.declared.loaded.Loaded.{Loaded}
 use Rattle.core_model.specs.Events.{events_of}
-use Rattle.core_model.specs.KernelWords.{kernel_code}
+use Rattle.core_model.specs.KernelWords.{KernelCodeState, kernel_code, linked_code}
 use Rattle.core_model.specs.Core.{CoreState, core_after}
 use Rattle.core_model.specs.Soundness.{IsCoreSound}
 use Rattle.core_invariant.specs.Homes.{HasExactHomes}
@@ -12,20 +12,22 @@ use Rattle.bundle_text.specs.declared.bundle.Bundle.{Bundle}
 use Rattle.bundle_text.specs.Lines.{bundle_of}
 use Rattle.masked_gen.specs.Generator.{generated}
 use Rattle.rv_loader.specs.Loading.{loading_of}
+use Rattle.scrub_rules.specs.Broken.{AreAcceptedParts}
 use Rattle.kernel_cli.specs.Commands.{IsHartCount}
 use Rattle.kernel_cli.specs.Findings.{Finding, order_in}
 use Rattle.kernel_cli.specs.Replays.{order_events, replay_events}
 use Rattle.kernel_cli.specs.Answer.{input_limit}
 use Rattle.kernel_cli.specs.declared.command.Command.{Command}
-use Rattle.kernel_cli.specs.declared.command.Command.TheVariants.{Run, Script, Replay, Explain, Drill}
+use Rattle.kernel_cli.specs.declared.command.Command.TheVariants.{Run, Script, Replay, Explain, Drill, LintDrill}
 
--- The command runs the core of the bundle: by the bundle's list of events, by its order, or by the order that the harts make.
+-- The command runs the core of a bundle: by the bundle's list of events, by its order, or by the order that the harts make.
 abbrev pub RunsCore : Command → Type 0
 RunsCore (Run harts) = ⊤
 RunsCore (Script probes) = ⊤
 RunsCore (Replay harts probes) = ⊤
 RunsCore Explain = ⊤
 RunsCore (Drill seed tasks) = ⊤
+RunsCore (LintDrill seed tasks) = ⊤
 RunsCore command = ⊥
 
 -- the events that it runs the core by
@@ -42,24 +44,30 @@ pub record LoadAs (harts : ℕ) (bytes : List ℕ) (loaded : Loaded) : Type 0 wh
   pub reads : bundle_of bytes ≡ Ok bundle
   pub loads : loading_of bundle harts ≡ Ok loaded
 
--- the core of a loaded bundle after so many of these events
-abbrev pub core_at : Loaded → List Event → ℕ → CoreState
-core_at loaded events count = core_after loaded kernel_code (take count events)
+-- the core of a loaded bundle under a kernel after so many of these events
+abbrev pub core_at : KernelCodeState → Loaded → List Event → ℕ → CoreState
+core_at code loaded events count = core_after loaded code (take count events)
 
 -- After any number of these events: no slot and no hart has two tasks, each ready context stands for its task, a hart in user mode is where
 -- the undisturbed run of its task is, and each entry of the log is public or shows a value or a change of one task's undisturbed run; each
 -- task has exactly one home; and what a task has put out is a beginning of its output alone.
-pub record IsRunSound (loaded : Loaded) (events : List Event) : Type 0 where
-  pub sound : (count : ℕ) → IsCoreSound loaded (core_at loaded events count)
-  pub homes : (count : ℕ) → HasExactHomes (length loaded.tasks) (core_at loaded events count).board
-  pub outputs : (count : ℕ) → AreOutputsSound loaded (core_at loaded events count)
+pub record IsRunSound (code : KernelCodeState) (loaded : Loaded) (events : List Event) : Type 0 where
+  pub sound : (count : ℕ) → IsCoreSound loaded (core_at code loaded events count)
+  pub homes : (count : ℕ) → HasExactHomes (length loaded.tasks) (core_at code loaded events count).board
+  pub outputs : (count : ℕ) → AreOutputsSound loaded (core_at code loaded events count)
 
 -- So it is of every bundle that bytes are read and loaded as, for any number of harts and by any events.
 abbrev pub AreCoresSound : Type 0
 AreCoresSound = (harts : ℕ) → IsHartCount harts → (bytes : List ℕ) (loaded : Loaded) → LoadAs harts bytes loaded
-    → (events : List Event) → IsRunSound loaded events
+    → (events : List Event) → IsRunSound kernel_code loaded events
 
 -- And of what the bundle of every number loads as for one hart.
 abbrev pub AreGeneratedCoresSound : Type 0
 AreGeneratedCoresSound = (seed tasks : ℕ) → tasks ≤ 32 → (loaded : Loaded) → loading_of (generated seed tasks) 1 ≡ Ok loaded
-    → (events : List Event) → IsRunSound loaded events
+    → (events : List Event) → IsRunSound kernel_code loaded events
+
+-- And so it is under the kernel that has the two parts of any accepted words.
+abbrev pub AreLintedCoresSound : Type 0
+AreLintedCoresSound = (words save restore : List ℕ) → AreAcceptedParts words save restore
+    → (seed tasks : ℕ) → tasks ≤ 32 → (loaded : Loaded) → loading_of (generated seed tasks) 1 ≡ Ok loaded
+    → (events : List Event) → IsRunSound (linked_code save restore) loaded events

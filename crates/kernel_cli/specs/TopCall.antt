@@ -4,15 +4,19 @@ use Rattle.std.specs.Io.KnownBytes.{Appends, IsAtEnd}
 use Rattle.io_edge.specs.Causes.{Rose, ConsumesAtMost}
 use Rattle.isa_model.specs.declared.task.Task.{Task}
 use Rattle.kernel_cli.specs.declared.command.Command.{Command}
-use Rattle.kernel_cli.specs.declared.command.Command.TheVariants.{Certify}
+use Rattle.kernel_cli.specs.declared.command.Command.TheVariants.{Certify, LintDrill}
 use Rattle.kernel_cli.specs.declared.status.Status.{Status}
 use Rattle.kernel_cli.specs.declared.status.Status.TheVariants.{Fine, Verdict, BadWords, BadInput, ReadFault, WriteFault, Memory, LogFull}
 use Rattle.kernel_cli.specs.Answer.{answer_of, words_refused, input_limit}
+use Rattle.core_model.specs.declared.event.Event.{Event}
 use Rattle.core_model.specs.declared.loaded.Loaded.{Loaded}
+use Rattle.core_model.specs.KernelWords.{kernel_code, linked_code}
+use Rattle.scrub_rules.specs.Parts.{Parts}
+use Rattle.scrub_rules.specs.Broken.{AreAcceptedParts}
 use Rattle.kernel_cli.specs.Commands.{harts_of, reads_source}
 use Rattle.kernel_cli.specs.Outcome.{IsLoadedFrom}
 use Rattle.kernel_cli.specs.Findings.{Finding}
-use Rattle.kernel_cli.specs.Found.{IsFound, Loads, IsSecureEverywhere}
+use Rattle.kernel_cli.specs.Found.{IsFound, Loads, AssembleAs, IsSecureEverywhere}
 use Rattle.kernel_cli.specs.Soundness.{RunsCore, events_by, LoadAs, IsRunSound}
 use Rattle.kernel_cli.specs.Statuses.{IsRefusal}
 
@@ -21,8 +25,8 @@ abbrev pub WereLeft : List ℕ → Option (List ℕ) → Type 0
 WereLeft bytes left = IfSome left (λ told. bytes ≡ told)
 
 -- The answer to the command, over the bytes that were left, has this status, and known bytes grow by its text. Where the
--- source doesn't tell its bytes, it is the answer over some bytes. It is the answer over what the command finds: for `run` an order that its
--- harts may make, for `certify` the verdict.
+-- source doesn't tell its bytes, it is the answer over some bytes. It is the answer over what the command finds: for `run` and `drill` an order
+-- that its harts may make, for `certify` the verdict, for `lint` what holds of the routine, and for `lint SEED N` an order too.
 abbrev pub Answers : Option Command → Status → Option (List ℕ) → Option (List ℕ) → Option (List ℕ) → Type 0
 Answers command status left held held' =
     (bytes : List ℕ) × (found : Finding) × WereLeft bytes left × IsFound command bytes found
@@ -63,17 +67,32 @@ WasReadFor command left left' = reads_source command ≡ true → WasRead left l
 -- command runs it by, whatever it finds.
 abbrev pub IsCoreSoundOf : Command → Option (List ℕ) → Type 0
 IsCoreSoundOf command left = (bytes : List ℕ) (loaded : Loaded) → WereLeft bytes left → Loads command bytes loaded
-    → (found : Finding) → IsRunSound loaded (events_by command found loaded)
+    → (found : Finding) → IsRunSound kernel_code loaded (events_by command found loaded)
+
+-- Whatever bytes were left that assemble to a routine which is accepted: the core of the bundle of a number under the kernel with its two parts
+-- is sound after any number of any events.
+abbrev pub IsLintedCoreSound : Command → Option (List ℕ) → Type 0
+IsLintedCoreSound command left = (bytes words : List ℕ) (parts : Parts) (loaded : Loaded) → WereLeft bytes left → AssembleAs bytes words
+    → AreAcceptedParts words parts.save parts.restore → Loads command bytes loaded
+    → (events : List Event) → IsRunSound (linked_code parts.save parts.restore) loaded events
 
 -- where the command runs a core
 abbrev pub IsCoreSoundFor : Option Command → Option (List ℕ) → Type 0
 IsCoreSoundFor None left = ⊤
+IsCoreSoundFor (Some (LintDrill seed tasks)) left = IsLintedCoreSound (LintDrill seed tasks) left
 IsCoreSoundFor (Some command) left = RunsCore command → IsCoreSoundOf command left
 
 -- Whatever bytes were left and told, that load: the first task is secure by one probe in the bundle's worlds, alone and in every core.
 abbrev pub IsFirstTaskSecure : Option (List ℕ) → Type 0
 IsFirstTaskSecure left = IfSome left (λ bytes. (loaded : Loaded) → LoadAs (harts_of Certify) bytes loaded
     → (T : Task) → slice_get loaded.tasks 0 ≡ Some T → IsSecureEverywhere T loaded.worlds)
+
+-- These bytes were left, no more of them than the limit, and the source was read to its end.
+pub record WasInput (left left' : Option (List ℕ)) (bytes : List ℕ) : Type 0 where
+  pub were : WereLeft bytes left
+  pub within : length bytes ≤ input_limit
+  pub end : IsAtEnd left'
+  pub taken : ConsumesAtMost left left' (input_limit + 1)
 
 -- The bytes that were left loaded for so many harts as this, and the source was read to its end.
 pub record WasLoaded (harts : ℕ) (left left' : Option (List ℕ)) (loaded : Loaded) : Type 0 where

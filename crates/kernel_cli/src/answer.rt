@@ -9,13 +9,14 @@ ghost use Rattle.probing_laws.specs.declared.verdict.CertFault.TheVariants as fa
 ghost use Rattle.kernel_cli.specs.Findings.{Finding};
 ghost use Rattle.kernel_cli.specs.Found.{IsFoundIn};
 ghost use Rattle.kernel_cli.specs.declared.command.Command.TheVariants as commands;
-ghost use Rattle.kernel_cli.specs.Commands.{IsHartCount, harts_of, reads_source, served_by_one, finds_nothing};
+ghost use Rattle.kernel_cli.specs.Commands.{IsHartCount, harts_of, reads_bundle, served_by_one, finds_nothing};
 ghost use Rattle.kernel_cli.specs.Replays.{order_report};
 ghost use Rattle.hart_runner.specs.Finishing.{IsFinished};
 ghost use Rattle.order_laws.specs.Judging.{OrderEnd};
 ghost use Rattle.kernel_cli.specs.Playing.{IsReplay};
 ghost use Rattle.kernel_cli.specs.Outcome.{status_of, IsAnswer, IsRead};
-ghost use Rattle.kernel_cli.specs.Drills.{IsDrillOrder};
+ghost use Rattle.kernel_cli.specs.Drills.{IsDrillOrder, drill_report};
+ghost use Rattle.core_model.specs.KernelWords.{kernel_code};
 ghost use Rattle.core_model.specs.declared.loaded.Loaded.{Loaded as LoadedBundle};
 ghost use Rattle.rv_loader.specs.Loading.{loading_of};
 ghost use Rattle.masked_gen.specs.Generator.{generated};
@@ -30,6 +31,7 @@ use crate::tasks::ends;
 use bundle_text::{Bundle, BundleKind, read_bundle, write_bundle};
 use chain_laws::generated_bundles_load;
 use hart_runner::Finished;
+use kernel_core::Kernel;
 use masked_gen::generate;
 use probe_inspect::{CertFault, Verdict, certify};
 use report_text::{alone_report, asm_text, cert_fault_text, report, verdict_text};
@@ -69,7 +71,7 @@ pub(crate) struct Response {
 }
 
 /// The command is done, with this text.
-fn done(text: Vec<u8>) -> Response
+pub(crate) fn done(text: Vec<u8>) -> Response
     ensures answer { IsAnswer result (done text.items) }
 {
     Response {
@@ -99,12 +101,14 @@ pub(crate) fn harts_of(command: Command) -> u32
         Command::Run { harts } => harts,
         Command::Replay { harts, .. } => harts,
         Command::Drill { .. } => 1,
+        Command::LintDrill { .. } => 1,
         Command::Alone
         | Command::Asm
         | Command::Script { .. }
         | Command::Explain
         | Command::Certify
-        | Command::Gen { .. } => 8,
+        | Command::Gen { .. }
+        | Command::Lint => 8,
     }
 }
 
@@ -182,7 +186,7 @@ fn certify_loaded(alloc: Global, loaded: &Loaded) -> Result<Response, AllocError
 /// The answer to a command over a loaded bundle, which finds nothing beside it.
 fn answer_plain(alloc: Global, command: Command, loaded: &Loaded) -> Result<Response, AllocError>
     requires plain { finds_nothing command ≡ true }
-    requires reads { reads_source (Some command) ≡ true }
+    requires reads { reads_bundle command ≡ true }
     requires loaded { IsLoaded loaded.now }
     requires harts { loaded.now.harts ≡ harts_of command }
     ensures answer { IfOk result (λ response. (found : Finding) → IsAnswer response (command_answer command found loaded.now)) }
@@ -202,6 +206,8 @@ fn answer_plain(alloc: Global, command: Command, loaded: &Loaded) -> Result<Resp
         Command::Certify => unreachable!(),
         Command::Gen { .. } => unreachable!(),
         Command::Drill { .. } => unreachable!(),
+        Command::Lint => unreachable!(),
+        Command::LintDrill { .. } => unreachable!(),
     }
 }
 
@@ -212,7 +218,7 @@ pub(crate) fn answer_loaded(
     loaded: &Loaded,
 ) -> Result<Response, AllocError>
     requires served { served_by_one (Some command) ≡ Some command }
-    requires reads { reads_source (Some command) ≡ true }
+    requires reads { reads_bundle command ≡ true }
     requires loaded { IsLoaded loaded.now }
     requires harts { loaded.now.harts ≡ harts_of command }
     ensures answer { IfOk result (λ response. (found : Finding) × IsFoundIn command loaded.now found
@@ -232,23 +238,36 @@ pub(crate) fn answer_gen(alloc: Global, seed: u64, tasks: u32) -> Result<Respons
     Ok(done(write_bundle(alloc, &bundle)?))
 }
 
-/// The answer to `drill`.
-pub(crate) fn answer_drill(alloc: Global, seed: u64, tasks: u32) -> Result<Response, AllocError>
+/// What the bundle of a number loads as for one hart.
+pub(crate) fn load_generated(alloc: Global, seed: u64, tasks: u32) -> Result<Loaded, AllocError>
     requires some { 1 ≤ tasks }
     requires few { tasks ≤ 32 }
-    ensures answer { IfOk result (λ response. (loaded : LoadedBundle) × (loading_of (generated seed tasks) 1 ≡ Ok loaded)
-        × (order : List ℕ) × IsDrillOrder loaded order × IsAnswer response (done (order_report loaded order))) }
+    ensures loads { IfOk result (λ loaded. loading_of (generated seed tasks) 1 ≡ Ok loaded) }
+    ensures loaded { IfOk result (λ loaded. IsLoaded loaded) }
+    ensures harts { IfOk result (λ loaded. loaded.harts ≡ 1) }
 {
     generated_bundles_load();
     let bundle = generate(alloc, seed, tasks)?;
     match load(alloc, &bundle, 1) {
-        Ok(loaded) => Ok(done(drill(alloc, &loaded)?)),
+        Ok(loaded) => Ok(loaded),
         Err(LoadFault::Memory) => Err(AllocError),
         Err(LoadFault::Asm(_)) => unreachable!(),
         Err(LoadFault::Limit { .. }) => unreachable!(),
         Err(LoadFault::PlanForMissingHart { .. }) => unreachable!(),
         Err(LoadFault::TooLong { .. }) => unreachable!(),
     }
+}
+
+/// The answer to `drill`.
+pub(crate) fn answer_drill(alloc: Global, seed: u64, tasks: u32) -> Result<Response, AllocError>
+    requires some { 1 ≤ tasks }
+    requires few { tasks ≤ 32 }
+    ensures answer { IfOk result (λ response. (loaded : LoadedBundle) × (loading_of (generated seed tasks) 1 ≡ Ok loaded)
+        × (order : List ℕ) × IsDrillOrder kernel_code loaded order × IsAnswer response (done (drill_report kernel_code loaded order))) }
+{
+    let loaded = load_generated(alloc, seed, tasks)?;
+    let kernel = Kernel::emitted(alloc)?;
+    Ok(done(drill(alloc, &loaded, kernel)?))
 }
 
 /// The answer to `run`, where the harts have run the bundle to its end.

@@ -1,7 +1,7 @@
 //! The words of the command line.
 
 ghost use Rattle.std.specs.Prelude.{◌≡◌, map, string_bytes};
-ghost use Rattle.kernel_cli.specs.Commands.{command_named, hart_count, run_by, replay_by, command_detailed, number_in, gen_of, drill_of, command_with_probes, command_of_three, command_of};
+ghost use Rattle.kernel_cli.specs.Commands.{command_named, hart_count, run_by, replay_by, command_detailed, number_in, gen_of, drill_of, lint_of, command_with_probes, command_of_three, command_of};
 
 /// What the program does.
 #[derive(Clone, Copy, Debug, PartialEq, Eq)]
@@ -47,6 +47,16 @@ pub enum Command {
         /// How many tasks there are: 1 to 32.
         tasks: u32,
     },
+    /// `lint`: checks the lines of the input as a save part, `ebreak` and a restore part that may stand in place of the kernel's.
+    Lint,
+    /// `lint SEED N`: checks them, and where they are accepted runs the bundle of a number on one hart of a kernel with these parts until it
+    /// finds nothing, and reports it.
+    LintDrill {
+        /// The number: 1 to 20 decimal digits, below 2^64.
+        seed: u64,
+        /// How many tasks there are: 1 to 32.
+        tasks: u32,
+    },
 }
 
 /// Above every number that a word may be. A decimal with more digits stays at this.
@@ -71,6 +81,7 @@ fn command_named(word: &str) -> Option<Command>
         "script" => Some(Command::Script { probes: false }),
         "explain" => Some(Command::Explain),
         "certify" => Some(Command::Certify),
+        "lint" => Some(Command::Lint),
         _ => None,
     }
 }
@@ -166,6 +177,18 @@ fn drill(seed: &str, tasks: &str) -> Option<Command>
     })
 }
 
+/// The check of a routine and the run of the bundle of a number with it, if the words are a seed and a number of tasks.
+fn lint(seed: &str, tasks: &str) -> Option<Command>
+    ensures command { result ≡ lint_of seed.now tasks.now }
+{
+    let seed = number_in(SEED_DIGITS, 0, u64::MAX, seed)?;
+    let tasks = number_in(TASK_DIGITS, 1, MAX_TASKS, tasks)?;
+    Some(Command::LintDrill {
+        seed,
+        tasks: tasks as u32,
+    })
+}
+
 /// The command of three words of which the last is `probes`.
 fn command_with_probes(word: &str, detail: &str, more: &str) -> Option<Command>
     ensures command { result ≡ command_with_probes word.now detail.now more.now }
@@ -185,6 +208,8 @@ fn command_of_three(word: &str, detail: &str, more: &str) -> Option<Command>
         generated(detail, more)
     } else if word == "drill" {
         drill(detail, more)
+    } else if word == "lint" {
+        lint(detail, more)
     } else {
         command_with_probes(word, detail, more)
     }

@@ -1,15 +1,13 @@
-//! The core of a bundle for one hart, whose hart goes on until it finds nothing.
+//! The core of a bundle for one hart, under a kernel, whose hart goes on until it finds nothing.
 
 ghost use Rattle.std.specs.Prelude.{◌≡◌, ◌≤◌, ◌+◌, ◌^◌, ℕ, List, [], IfOk};
 ghost use Rattle.core_model.specs.Loaded.{IsLoaded};
-ghost use Rattle.kernel_cli.specs.Drills.{IsDrilled, IsDrillOrder};
-ghost use Rattle.kernel_cli.specs.Replays.{order_report};
+ghost use Rattle.kernel_cli.specs.Drills.{IsDrilled, IsDrillOrder, drill_report};
 
-use crate::scripts::core_report;
-use core_invariant::emitted_is_kernel;
 use core_model::Loaded;
-use kernel_core::Core;
+use kernel_core::{Core, Kernel};
 use probe_log::{Keeper, Tally};
+use report_text::report;
 use std::alloc::{AllocError, Global};
 
 /// How many queue actions a bundle makes at most.
@@ -20,15 +18,15 @@ pub(crate) fn drill_core<K: Keeper>(
     alloc: Global,
     loaded: &Loaded,
     keeper: K,
+    kernel: Kernel,
 ) -> Result<Core<K>, AllocError>
     requires loaded { IsLoaded loaded.now }
     requires harts { loaded.now.harts ≡ 1 }
     requires empty { K.stands keeper [] }
     requires room { 2 ^ 64 ≤ K.room_of keeper + 1 }
-    ensures drilled { IfOk result (IsDrilled K.stands loaded.now) }
+    ensures drilled { IfOk result (IsDrilled K.stands kernel loaded.now) }
 {
-    emitted_is_kernel();
-    let mut core = Core::boot(alloc, loaded, keeper, MAX_ACTIONS)?;
+    let mut core = Core::boot_with(alloc, loaded, keeper, MAX_ACTIONS, kernel)?;
     while core.goes_on(0) {
         let _action = core.to_action(0);
     }
@@ -36,11 +34,11 @@ pub(crate) fn drill_core<K: Keeper>(
 }
 
 /// The report of the core after that.
-pub(crate) fn drill(alloc: Global, loaded: &Loaded) -> Result<Vec<u8>, AllocError>
+pub(crate) fn drill(alloc: Global, loaded: &Loaded, kernel: Kernel) -> Result<Vec<u8>, AllocError>
     requires loaded { IsLoaded loaded.now }
     requires harts { loaded.now.harts ≡ 1 }
-    ensures text { IfOk result (λ text. (order : List ℕ) × IsDrillOrder loaded.now order × (text.items ≡ order_report loaded.now order)) }
+    ensures text { IfOk result (λ text. (order : List ℕ) × IsDrillOrder kernel.code loaded.now order × (text.items ≡ drill_report kernel.code loaded.now order)) }
 {
-    let core = drill_core(alloc, loaded, Tally::new())?;
-    Ok(core_report(alloc, loaded, &core)?)
+    let core = drill_core(alloc, loaded, Tally::new(), kernel)?;
+    report(alloc, &core.snapshot(alloc)?)
 }

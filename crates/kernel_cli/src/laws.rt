@@ -3,7 +3,7 @@
 ghost use Rattle.std.specs.Prelude.{◌≡◌, ◌↔◌, ℕ, List, Some};
 ghost use Rattle.kernel_cli.specs.Commands.{SpellsCommand, command_of};
 ghost use Rattle.kernel_cli.specs.Scripts.{LogIsFullExactly};
-ghost use Rattle.kernel_cli.specs.Soundness.{AreCoresSound, AreGeneratedCoresSound};
+ghost use Rattle.kernel_cli.specs.Soundness.{AreCoresSound, AreGeneratedCoresSound, AreLintedCoresSound};
 ghost use Rattle.kernel_cli.specs.Found.{SecureTasksStaySecure};
 ghost use Rattle.kernel_cli.specs.declared.command.Command.{Command};
 
@@ -12,6 +12,7 @@ use core_invariant::{
 };
 use noninterference::emitted_is_alike;
 use probing_laws::security_transfers;
+use routine_laws::accepted_routines_do;
 use rv_loader::loading_is_sound;
 
 /// The function that decides the words gives exactly the command that they spell.
@@ -56,4 +57,15 @@ pub fn generated_cores_are_sound()
     outputs_stay_beginnings();
     each_task_has_one_home();
     emitted_is_kernel();
+}
+
+/// So is it under the kernel that has the two parts of any accepted words in place of its own.
+pub fn linted_cores_are_sound()
+    ensures sound { AreLintedCoresSound }
+{
+    loading_is_sound();
+    core_stays_sound();
+    outputs_stay_beginnings();
+    each_task_has_one_home();
+    accepted_routines_do();
 }

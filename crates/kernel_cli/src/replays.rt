@@ -3,7 +3,7 @@
 ghost use Rattle.std.specs.Prelude.{◌≡◌, ◌≤◌, ◌+◌, ◌-◌, ℕ, List, [], ◌∷◌, ◌++◌, Some, None, IfOk, IfErr};
 ghost use Rattle.core_model.specs.declared.loaded.Loaded.{Loaded as LoadedBundle};
 ghost use Rattle.core_model.specs.Events.{entry_count};
-ghost use Rattle.core_model.specs.Limits.{max_order_entries};
+ghost use Rattle.isa_model.specs.Limits.{max_order_entries};
 ghost use Rattle.core_model.specs.Loaded.{IsLoaded};
 ghost use Rattle.report_text.specs.Listing.{listing_of};
 ghost use Rattle.kernel_cli.specs.Scripts.{entries_each, most_before};
@@ -14,7 +14,7 @@ use crate::scripts::{LOG_ROOM, core_report, log_and_report};
 use core_invariant::emitted_is_kernel;
 use core_model::{Loaded, OrderRun, counts_are_lengths};
 use kernel_core::Core;
-use probe_log::{Full, Keeper, Tally};
+use probe_log::{Keeper, Packed, Tally};
 use std::alloc::{AllocError, AllocFailed, Global};
 
 /// Why the run by an order didn't come to its end.
@@ -128,6 +128,6 @@ pub(crate) fn replay_probes(alloc: Global, loaded: &Loaded) -> Result<Vec<u8>, O
     requires loaded { IsLoaded loaded.now }
     ensures text { IsReplay (replay_end (Some most_before) loaded.now) (listing_of (replay_log loaded.now) ++ replay_report loaded.now) result }
 {
-    let core = replay_core(alloc, loaded, Full::new(alloc, LOG_ROOM)?)?;
+    let core = replay_core(alloc, loaded, Packed::new(alloc, LOG_ROOM)?)?;
     Ok(log_and_report(alloc, loaded, &core)?)
 }

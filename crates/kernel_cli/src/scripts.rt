@@ -2,7 +2,7 @@
 
 ghost use Rattle.std.specs.Prelude.{◌≡◌, ◌≤◌, ◌-◌, List, [], ◌++◌, option_map, IfOk, IfSome, is_none};
 ghost use Rattle.core_model.specs.Events.{event_count};
-ghost use Rattle.core_model.specs.Limits.{max_events};
+ghost use Rattle.isa_model.specs.Limits.{max_events};
 ghost use Rattle.core_model.specs.Loaded.{IsLoaded};
 ghost use Rattle.core_model.specs.declared.event.Event.{Event as CoreEvent};
 ghost use Rattle.core_model.specs.Events.{events_of};
@@ -13,7 +13,7 @@ ghost use Rattle.kernel_cli.specs.Answer.{probes_text, explanations_text};
 
 use core_model::{EventRun, Loaded, counts_are_lengths};
 use kernel_core::Core;
-use probe_log::{Full, Keeper, Tally};
+use probe_log::{Keeper, Packed, Tally};
 use report_text::{explain_text, listing, report};
 use std::alloc::{AllocError, Global};
 
@@ -81,7 +81,7 @@ pub(crate) fn core_report<K: Keeper>(
 pub(crate) fn log_and_report(
     alloc: Global,
     loaded: &Loaded,
-    core: &Core<Full>,
+    core: &Core<Packed>,
 ) -> Result<Vec<u8>, AllocError>
     requires played { (events : List CoreEvent) × IsPlayed HasEntries loaded.now events core.now }
     ensures text { IfOk result (λ text. (events : List CoreEvent) → IsPlayed HasEntries loaded.now events core.now
@@ -111,7 +111,7 @@ pub(crate) fn script_probes(alloc: Global, loaded: &Loaded) -> Result<Option<Vec
     requires harts { loaded.now.harts ≡ 8 }
     ensures text { IfOk result (λ text. option_map (λ text. text.items) text ≡ probes_text loaded.now) }
 {
-    let Some(core) = play(alloc, loaded, Full::new(alloc, LOG_ROOM)?)? else {
+    let Some(core) = play(alloc, loaded, Packed::new(alloc, LOG_ROOM)?)? else {
         return Ok(None);
     };
     Ok(Some(log_and_report(alloc, loaded, &core)?))
@@ -123,7 +123,7 @@ pub(crate) fn explain(alloc: Global, loaded: &Loaded) -> Result<Option<Vec<u8>>,
     requires harts { loaded.now.harts ≡ 8 }
     ensures text { IfOk result (λ text. option_map (λ text. text.items) text ≡ explanations_text loaded.now) }
 {
-    let Some(core) = play(alloc, loaded, Full::new(alloc, LOG_ROOM)?)? else {
+    let Some(core) = play(alloc, loaded, Packed::new(alloc, LOG_ROOM)?)? else {
         return Ok(None);
     };
     let mut text = explain_text(alloc, loaded.tasks.as_slice(), core.keeper())?;

@@ -6,14 +6,14 @@ ghost use Rattle.kernel_cli.specs.Statuses.{number_of};
 /// How a call of the program ended.
 #[derive(Clone, Copy, Debug, PartialEq, Eq)]
 pub enum Status {
-    /// The text of the command is written. The input was read to its end, but by `gen`, which doesn't read.
+    /// The text of the command is written. The input was read to its end, but by `gen` and `drill`, which don't read.
     Fine,
-    /// The input was read to its end, and the line is written that says why its task isn't certified: two worlds take different courses, or a
-    /// latch write tells something of the secret.
+    /// The input was read to its end, and the line is written that says why its task isn't certified, two worlds take different courses or a
+    /// latch write tells something of the secret, or which rule its routine breaks, and where.
     Verdict,
     /// The words are no command.
     BadWords,
-    /// The input is too large, or can't be read as a bundle.
+    /// The input is too large, or can't be read as a bundle, or as code.
     BadInput,
     /// The source counted a fault, of a command that reads; nothing is written.
     ReadFault,

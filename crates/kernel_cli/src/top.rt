@@ -5,14 +5,15 @@ ghost use Rattle.hart_runner.specs.Finishing.{IsFinished};
 ghost use Rattle.kernel_cli.specs.declared.status.Status.TheVariants as statuses;
 ghost use Rattle.kernel_cli.specs.Replays.{order_report};
 ghost use Rattle.kernel_cli.specs.Found.{IsRunOrder};
-ghost use Rattle.kernel_cli.specs.Commands.{IsHartCount, harts_of, command_of, reads_source, HasTasks, served_by_one, served_by_threads};
+ghost use Rattle.kernel_cli.specs.Commands.{IsHartCount, harts_of, command_of, reads_source, reads_code, reads_bundle, HasTasks, served_by_one, served_by_threads};
 ghost use Rattle.kernel_cli.specs.Answer.{gen_answer};
-ghost use Rattle.kernel_cli.specs.Drills.{IsDrillOrder};
+ghost use Rattle.core_model.specs.KernelWords.{kernel_code};
+ghost use Rattle.kernel_cli.specs.Drills.{IsDrillOrder, drill_report};
 ghost use Rattle.core_model.specs.declared.loaded.Loaded.{Loaded as LoadedBundle};
 ghost use Rattle.rv_loader.specs.Loading.{loading_of};
 ghost use Rattle.masked_gen.specs.Generator.{generated};
 ghost use Rattle.kernel_cli.specs.Outcome.{status_of};
-ghost use Rattle.kernel_cli.specs.TopCall.{WritesOrFails, WasLoaded, IsAnswered};
+ghost use Rattle.kernel_cli.specs.TopCall.{WritesOrFails, WasInput, WasLoaded, IsAnswered};
 
 use crate::answer::{
     Response, answer_drill, answer_finished, answer_gen, answer_loaded, harts_of, read_loaded,
@@ -20,8 +21,10 @@ use crate::answer::{
 };
 use crate::command::{Command, read_words};
 use crate::laws::{
-    commands_are_decided, cores_are_sound, generated_cores_are_sound, secure_tasks_stay_secure,
+    commands_are_decided, cores_are_sound, generated_cores_are_sound, linted_cores_are_sound,
+    secure_tasks_stay_secure,
 };
+use crate::lints::answer_code;
 use crate::status::Status;
 use core_model::Loaded;
 use hart_runner::{Finished, run_threads};
@@ -50,6 +53,30 @@ fn put_answer<K: Sink>(sink: &mut K, response: &Response) -> Status
     put(sink, response.text.as_slice(), status_of(response.outcome))
 }
 
+/// The bytes that the source gives, if they are within the limit; or the status, where that is the end of the command.
+fn read_input<S: Source, K: Sink>(
+    alloc: Global,
+    command: Command,
+    src: &mut S,
+    sink: &mut K,
+) -> Result<Vec<u8>, Status>
+    requires harts { IsHartCount (harts_of command) }
+    requires tasks { HasTasks command }
+    requires reads { reads_source (Some command) ≡ true }
+    ensures read { IfOk result (λ bytes. WasInput (S.left src.old) (S.left src.new) bytes.items) }
+    ensures kept { IfOk result (λ bytes. sink.new ≡ sink.old) }
+    ensures answered { IfErr result (IsAnswered S.left S.faults K.held K.faults (Some command) src.old src.new sink.old sink.new) }
+{
+    cores_are_sound();
+    linted_cores_are_sound();
+    match read_all(alloc, src, INPUT_LIMIT) {
+        Err(ReadEnd::ReadFault) => Err(Status::ReadFault),
+        Err(ReadEnd::Memory) => Err(Status::Memory),
+        Err(ReadEnd::TooLarge) => Err(put(sink, b"too large\n", Status::BadInput)),
+        Ok(bytes) => Ok(bytes),
+    }
+}
+
 /// What the bundle that the source gives loads as for a command; or the status, where that is the end of the command.
 fn load_input<S: Source, K: Sink>(
     alloc: Global,
@@ -58,21 +85,40 @@ fn load_input<S: Source, K: Sink>(
     sink: &mut K,
 ) -> Result<Loaded, Status>
     requires harts { IsHartCount (harts_of command) }
-    requires reads { reads_source (Some command) ≡ true }
+    requires tasks { HasTasks command }
+    requires reads { reads_bundle command ≡ true }
     ensures loaded { IfOk result (WasLoaded (harts_of command) (S.left src.old) (S.left src.new)) }
     ensures kept { IfOk result (λ loaded. sink.new ≡ sink.old) }
     ensures answered { IfErr result (IsAnswered S.left S.faults K.held K.faults (Some command) src.old src.new sink.old sink.new) }
 {
     cores_are_sound();
+    linted_cores_are_sound();
     secure_tasks_stay_secure();
-    match read_all(alloc, src, INPUT_LIMIT) {
-        Err(ReadEnd::ReadFault) => Err(Status::ReadFault),
-        Err(ReadEnd::Memory) => Err(Status::Memory),
-        Err(ReadEnd::TooLarge) => Err(put(sink, b"too large\n", Status::BadInput)),
+    match read_input(alloc, command, src, sink) {
+        Err(status) => Err(status),
         Ok(bytes) => match read_loaded(alloc, harts_of(command), bytes.as_slice()) {
             Err(_) => Err(Status::Memory),
             Ok(Err(response)) => Err(put_answer(sink, &response)),
             Ok(Ok(loaded)) => Ok(loaded),
+        },
+    }
+}
+
+/// Does a command over the code that the source gives.
+fn do_code<S: Source, K: Sink>(alloc: Global, command: Command, src: &mut S, sink: &mut K) -> Status
+    requires harts { IsHartCount (harts_of command) }
+    requires tasks { HasTasks command }
+    requires code { reads_code command ≡ true }
+    ensures answered { IsAnswered S.left S.faults K.held K.faults (Some command) src.old src.new sink.old sink.new result }
+{
+    cores_are_sound();
+    linted_cores_are_sound();
+    secure_tasks_stay_secure();
+    match read_input(alloc, command, src, sink) {
+        Err(status) => status,
+        Ok(bytes) => match answer_code(alloc, command, bytes.as_slice()) {
+            Err(_) => Status::Memory,
+            Ok(response) => put_answer(sink, &response),
         },
     }
 }
@@ -86,10 +132,12 @@ fn do_command<S: Source, K: Sink>(
 ) -> Status
     requires served { served_by_one (Some command) ≡ Some command }
     requires harts { IsHartCount (harts_of command) }
-    requires reads { reads_source (Some command) ≡ true }
+    requires tasks { HasTasks command }
+    requires reads { reads_bundle command ≡ true }
     ensures answered { IsAnswered S.left S.faults K.held K.faults (Some command) src.old src.new sink.old sink.new result }
 {
     cores_are_sound();
+    linted_cores_are_sound();
     secure_tasks_stay_secure();
     match load_input(alloc, command, src, sink) {
         Err(status) => status,
@@ -116,8 +164,8 @@ fn put_drilled<K: Sink>(alloc: Global, seed: u64, tasks: u32, sink: &mut K) -> S
     requires some { 1 ≤ tasks }
     requires few { tasks ≤ 32 }
     ensures written { (sink.new ≡ sink.old) × (result ≡ statuses.Memory)
-        ⊎ (loaded : LoadedBundle) × (loading_of (generated seed tasks) 1 ≡ Ok loaded) × (order : List ℕ) × IsDrillOrder loaded order
-        × WritesOrFails statuses.Fine (K.held sink.old) (K.held sink.new) (K.faults sink.old) (K.faults sink.new) (order_report loaded order) result }
+        ⊎ (loaded : LoadedBundle) × (loading_of (generated seed tasks) 1 ≡ Ok loaded) × (order : List ℕ) × IsDrillOrder kernel_code loaded order
+        × WritesOrFails statuses.Fine (K.held sink.old) (K.held sink.new) (K.faults sink.old) (K.faults sink.new) (drill_report kernel_code loaded order) result }
 {
     match answer_drill(alloc, seed, tasks) {
         Err(_) => Status::Memory,
@@ -141,12 +189,14 @@ fn do_served<S: Source, K: Sink>(
     match command {
         Command::Gen { seed, tasks } => put_generated(alloc, seed, tasks, sink),
         Command::Drill { seed, tasks } => put_drilled(alloc, seed, tasks, sink),
+        Command::Lint => do_code(alloc, command, src, sink),
+        Command::LintDrill { .. } => do_code(alloc, command, src, sink),
         other => do_command(alloc, other, src, sink),
     }
 }
 
 /// Does the command that the words spell, on one thread: takes its input from the source and writes its
-/// text to the sink. `gen` leaves the source as it is. It always returns. `run`, which takes threads, is refused as no command.
+/// text to the sink. `gen` and `drill` leave the source as it is. It always returns. `run`, which takes threads, is refused as no command.
 ///
 /// The status and the text are those of one function of the command and the input, unless the source
 /// or the sink counts a fault or memory runs out; the definition of `IsAnswered` says for each
@@ -203,6 +253,7 @@ pub fn run_harts<R: Threads + Wait + Sync, S: Source, K: Sink, G: Gate>(
 {
     commands_are_decided();
     cores_are_sound();
+    linted_cores_are_sound();
     secure_tasks_stay_secure();
     let Some(Command::Run { harts }) = read_words(words) else {
         return put(sink, b"bad words\n", Status::BadWords);

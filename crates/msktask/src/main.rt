@@ -21,6 +21,8 @@ usage: msktask COMMAND
   explain          as script, with each entry that isn't public and what it shows
   gen SEED N       writes the bundle of N masked tasks, 1 to 32, that the number SEED gives; reads no bundle
   drill SEED N     runs that bundle on one hart until it finds nothing; reads no bundle
+  lint             checks a save part, ebreak and a restore part, as lines of code on standard input
+  lint SEED N      the same, and where they are accepted runs that bundle under a kernel that has them
 ";
 
 /// The status of arguments that can't be had: want of memory, or words that are no text.

@@ -4,7 +4,7 @@ use Rattle.kernel_cli.specs.TopCall.{WritesOrFails, IsAnswered}
 use Rattle.kernel_cli.specs.Outcome.{status_of}
 use Rattle.kernel_cli.specs.declared.status.Status.TheVariants.{Memory}
 use Rattle.std.specs.Prelude.{Some}
-use Rattle.kernel_cli.proofs.SoundCores.{core_sound_for}
+use Rattle.kernel_cli.proofs.SoundCores.{core_sound_for, bundles_are_read}
 use Rattle.kernel_cli.proofs.Answering.{answered_loaded, answered_without_memory}
 use Rattle.kernel_cli.proofs.top.do_command.Goals as goal
 
@@ -13,7 +13,9 @@ returns-in-Err-answer_loaded g c = record {
   answered = subst (λ (k : g.row.K.Denot). IsAnswered g.S.Source.left g.S.Source.faults g.K.Sink.held g.K.Sink.faults (Some c.args.command) c.args.src.now c.load_input.new.src c.args.sink.now k Memory)
       (sym c.in-Ok.ensures.kept)
       (answered_without_memory g.S.Source.left g.S.Source.faults g.K.Sink.held g.K.Sink.faults c.args.command c.args.src.now c.load_input.new.src c.args.sink.now
-      c.in-Ok.ensures.loaded.taken c.requires.reads (core_sound_for c.cores_are_sound.ensures.sound c.args.command c.requires.harts c.requires.reads (g.S.Source.left c.args.src.now)));
+      c.in-Ok.ensures.loaded.taken (bundles_are_read c.args.command c.requires.reads)
+      (core_sound_for c.cores_are_sound.ensures.sound c.linted_cores_are_sound.ensures.sound c.args.command c.requires.harts c.requires.tasks (bundles_are_read c.args.command c.requires.reads)
+      (g.S.Source.left c.args.src.now)));
 }
 
 pub returns : goal.returns
@@ -23,11 +25,12 @@ returns g c =
     let found = c.in-Ok-answer_loaded.ensures.answer in
     record {
       answered = answered_loaded g.S.Source.left g.S.Source.faults g.K.Sink.held g.K.Sink.faults c.args.command c.args.src.now c.load_input.new.src c.args.sink.now
-          c.put_answer.new.sink c.put_answer.result c.in-Ok.loaded found.0 c.in-Ok-answer_loaded.response c.in-Ok.ensures.loaded found.1 found.2
+          c.put_answer.new.sink c.put_answer.result c.in-Ok.loaded found.0 c.in-Ok-answer_loaded.response c.requires.reads c.in-Ok.ensures.loaded found.1 found.2
           (subst W c.in-Ok.ensures.kept c.put_answer.ensures.written)
           (record {
-            reads = c.requires.reads;
-            cores = core_sound_for c.cores_are_sound.ensures.sound c.args.command c.requires.harts c.requires.reads (g.S.Source.left c.args.src.now);
+            reads = bundles_are_read c.args.command c.requires.reads;
+            cores = core_sound_for c.cores_are_sound.ensures.sound c.linted_cores_are_sound.ensures.sound c.args.command c.requires.harts c.requires.tasks (bundles_are_read c.args.command c.requires.reads)
+                (g.S.Source.left c.args.src.now);
             securing = c.secure_tasks_stay_secure.ensures.secure;
           });
     }

@@ -33,7 +33,7 @@ returns-in-Ok g c =
     c.put_finished.new.sink c.put_finished.result c.in-Ok.loaded c.in-Ok.ensures.loaded (subst W c.in-Ok.ensures.kept c.put_finished.ensures.written)
     (record {
       reads = refl;
-      cores = core_sound_for c.cores_are_sound.ensures.sound (Run harts) count refl (g.S.Source.left c.args.src.now);
+      cores = core_sound_for c.cores_are_sound.ensures.sound c.linted_cores_are_sound.ensures.sound (Run harts) count tt refl (g.S.Source.left c.args.src.now);
       securing = c.secure_tasks_stay_secure.ensures.secure;
     }) in
     record {
