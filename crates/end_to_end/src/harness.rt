@@ -78,6 +78,22 @@ pub(crate) fn runs<R: Abort + AllocGlobal>(
     Ok(())
 }
 
+/// What the words write over an input, where they end fine.
+pub(crate) fn written_by<R: Abort + AllocGlobal>(
+    rt: &R,
+    words: &[&str],
+    input: &[u8],
+) -> Result<String, Fail> {
+    let alloc = rt.alloc();
+    let words = words_of(alloc, words)?;
+    let mut src = MemSource::new(input.to_vec(alloc)?, 4096, Vec::new(alloc));
+    let mut sink = MemSink::new(alloc, 65_536, 4096, Vec::new(alloc))?;
+    let ended = number_of(alloc, words.as_slice(), &mut src, &mut sink);
+    let found = str::from_utf8(sink.bytes())?;
+    assert_eq!(rt; ended, 0, "number of {words:?}, where {found} is written");
+    Ok(String::from_str(alloc, found)?)
+}
+
 /// Runs the words over a source that fails at its first call: they have to end fine, write this text, and leave that call to come.
 pub(crate) fn runs_unread<R: Abort + AllocGlobal>(
     rt: &R,

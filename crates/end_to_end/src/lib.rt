@@ -1,5 +1,5 @@
-//! Worked examples of the commands that run no core, over the top call: tasks alone, listings, verdicts, bundles from a number, what is
-//! refused, and bundles that are broken at each byte; and edges that fail, under each command that needs no threads. Everything here is a
+//! Worked examples of the commands that run no core, over the top call: tasks alone, listings, verdicts, bundles from a number, routines of
+//! one's own, what is refused, and bundles that are broken at each byte; and edges that fail, under each command that needs no threads. Everything here is a
 //! test.
 #![tactic(auto)]
 
@@ -15,6 +15,8 @@ mod generated;
 mod harness;
 #[cfg(test)]
 mod limits;
+#[cfg(test)]
+mod lints;
 #[cfg(test)]
 mod listings;
 #[cfg(test)]
