@@ -12,16 +12,6 @@ worlds() {
     awk -v n="$1" 'BEGIN { for (w = 0; w < n / 2; w++) { printf "world %d 0 0\nworld %d 0 0\n", w, w } }'
 }
 
-# kilobytes BUNDLE: the peak memory of a run
-kilobytes() {
-    python3 - "$program" "$room/$1.bundle" <<'PY'
-import resource, subprocess, sys
-with open(sys.argv[2]) as text:
-    subprocess.run([sys.argv[1], "certify"], stdin=text, stdout=subprocess.DEVNULL, check=True)
-print(resource.getrusage(resource.RUSAGE_CHILDREN).ru_maxrss)
-PY
-}
-
 code='lui x20,264\nloop: sw x5,0(x20)\nsw x6,4(x20)\nmul x7,x5,x6\naddi x5,x5,1\nxor x6,x6,x7\nj loop\n'
 for row in "few 20 100000" "many 65536 30"; do
     read -r name count fuel <<<"$row"
@@ -34,7 +24,7 @@ fail=0
 for row in "few 20 100000" "many 65536 30"; do
     read -r name count fuel <<<"$row"
     s=$(seconds "$room/$name.bundle" "$program" certify)
-    k=$(kilobytes "$name")
+    k=$(kilobytes "$room/$name.bundle" "$program" certify)
     awk -v w="$count" -v f="$fuel" -v s="$s" -v k="$k" 'BEGIN {
         printf "%d worlds of %d instructions: %.3f s, %d MB\n", w, f, s, k / 1000
         exit !(s <= 1 && k <= 96000)

@@ -25,3 +25,13 @@ seconds() {
     done
     echo "$best"
 }
+
+# kilobytes FILE COMMAND..: the peak memory of a run of the command over the file
+kilobytes() {
+    python3 - "$@" <<'PY'
+import resource, subprocess, sys
+with open(sys.argv[1]) as text:
+    subprocess.run(sys.argv[2:], stdin=text, stdout=subprocess.DEVNULL, check=True)
+print(resource.getrusage(resource.RUSAGE_CHILDREN).ru_maxrss)
+PY
+}

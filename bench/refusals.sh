@@ -1,6 +1,6 @@
 #!/usr/bin/env bash
-# Refuses memory: for each command on a small bundle it runs the built program once for each time that it asks for memory, and refuses that one
-# growth. Each run has to end with status 6 and nothing written, or with the status and the text that it has where
+# Refuses memory: for each command on a small bundle, and for `lint` on a routine, it runs the built program once for each time that it asks
+# for memory, and refuses that one growth. Each run has to end with status 6 and nothing written, or with the status and the text that it has where
 # nothing is refused; `run 2`, whose order isn't fixed, with status 0 and a report in which every task has ended as it does alone. It prints
 # for each command how many growths there are and how the runs ended, and ends with 1 at the first run that isn't as it has to be.
 # Run it with the program built, where there is a C compiler: what refuses is a library that is loaded before the C library.
@@ -66,7 +66,10 @@ bundle '' >"$room/bundle"
 "$program" alone <"$room/bundle" >"$room/alone"
 while IFS='|' read -r words lines; do
     read -ra command <<<"$words"
-    bundle "$lines" >"$room/bundle"
+    case $words in
+        lint*) cp examples/own-routine.routine "$room/bundle" ;;
+        *) bundle "$lines" >"$room/bundle" ;;
+    esac
     whole=$(REFUSED=0 ended "${command[@]}")
     cp "$room/now" "$room/whole"
     growths=0 stopped=0 others=0
@@ -99,4 +102,6 @@ run 2|
 certify|world 0 0\nworld 1 1\n
 gen 1 2|
 drill 1 1|
+lint|
+lint 1 1|
 CASES

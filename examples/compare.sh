@@ -1,14 +1,15 @@
 #!/usr/bin/env bash
 # Compares what the program prints for each example with what stands beside it: NAME.bundle with NAME.alone, and with NAME.asm,
 # NAME.script, NAME.probes (of `script probes`), NAME.explain, NAME.replayH (of `replay H`), NAME.runH (of `run H`, where the harts can make
-# one order alone) and NAME.certify where there is one. Prints what differs, and nothing where all agree. Ends with 1 where something differs or a report is missing. Where the program isn't built it says so and
-# ends with 0.
+# one order alone) and NAME.certify where there is one; and each NAME.routine with NAME.lint. Then what documents say is printed, by
+# tutorial.sh, and what is made of the C files, by from-c/compare.sh. Prints what differs, and nothing where all agree. Ends with 1 where
+# something differs, a report is missing or the program isn't built.
 set -u
 cd "$(dirname "$0")" || exit 2
 program=../crates/msktask/out/msktask
 if [ ! -x "$program" ]; then
     echo "examples: not compared, since crates/msktask/out/msktask isn't built" >&2
-    exit 0
+    exit 1
 fi
 
 # what a command prints for a bundle, and then its status
@@ -22,17 +23,18 @@ printed() {
     echo "status $?"
 }
 
-# what it has to print: the file, and then its status, which is 1 for a task that isn't certified and 0 for everything else
+# what it has to print: the file, and then its status, which is 1 for a task that isn't certified and for a routine that is refused, and 0 for
+# everything else
 wanted() {
     cat "$1" || return
     case $(head -c 4 "$1") in
-        leak | cont) echo "status 1" ;;
+        leak | cont | refu) echo "status 1" ;;
         *) echo "status 0" ;;
     esac
 }
 
 differ=0
-for bundle in *.bundle; do
+for bundle in *.bundle from-c/*.bundle; do
     name=${bundle%.bundle}
     for command in alone asm run{1..8} script probes explain certify replay{1..8}; do
         [ -e "$name.$command" ] || [ "$command" = alone ] || continue
@@ -40,4 +42,10 @@ for bundle in *.bundle; do
             differ=1
     done
 done
+for routine in *.routine; do
+    name=${routine%.routine}
+    diff --label "$name.lint" --label "lint < $routine" -u <(wanted "$name.lint") <(printed lint "$routine") || differ=1
+done
+./tutorial.sh || differ=1
+./from-c/compare.sh || differ=1
 exit "$differ"
