@@ -1,6 +1,6 @@
 //! Comparisons.
 
-ghost use Rattle.std.specs.Prelude.{◌≡◌, nat_lt, int_lt};
+ghost use Rattle.std.specs.Prelude.{◌≡◌, int_lt};
 ghost use Rattle.isa_model.specs.Arithmetic.{is_taken, signed};
 
 use isa_model::Cmp;

@@ -1,6 +1,6 @@
 //! The part of a memory word that a load takes or a store replaces. Memory is little endian.
 
-ghost use Rattle.std.specs.Prelude.{◌≡◌, ◌==◌, ◌*◌, ◌<◌, ◌≤◌, ◌+◌, ◌%◌, ◌^◌};
+ghost use Rattle.std.specs.Prelude.{◌≡◌, ◌==◌, ◌*◌, ◌<◌, ◌+◌, ◌%◌, ◌^◌};
 ghost use Rattle.isa_model.specs.Arithmetic.{load_size, store_size, load_result, store_result, byte_of, half_of, stored_word};
 ghost use Rattle.isa_model.specs.Bits.{two_complement, sign_extend};
 

@@ -1,6 +1,6 @@
 //! The operations of the arithmetic unit.
 
-ghost use Rattle.std.specs.Prelude.{◌≡◌, ◌%◌, ◌^◌, nat_lt};
+ghost use Rattle.std.specs.Prelude.{◌≡◌, ◌%◌, ◌^◌};
 ghost use Rattle.isa_model.specs.Arithmetic.{alu_of, bit_of, floor_quotient, signed};
 ghost use Rattle.isa_model.specs.Bits.{two_complement};
 
@@ -33,6 +33,9 @@ fn arithmetic_shift(a: u32, b: u32) -> u32
 /// and the low word of a product modulo 2^32; shifts by the low five bits of `b`; Slt compares signed numbers, Sltu unsigned ones;
 /// the high word of a product of signed numbers (Mulh), of a signed and an unsigned one (Mulhsu), and of unsigned ones (Mulhu);
 /// Div and Rem round towards zero, Divu and Remu are unsigned, and a division by 0 gives all ones, with the dividend as remainder.
+///
+/// It is inlined: after a decoded word the compiler then knows the operation, and chooses it once.
+#[inline(always)]
 pub fn alu(op: Alu, a: u32, b: u32) -> u32
     ensures value { result ≡ alu_of op a b }
 {
