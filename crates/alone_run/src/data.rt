@@ -1,6 +1,6 @@
 //! The data words of a task.
 
-ghost use Rattle.std.specs.Prelude.{◌≡◌, ℕ, replicate, IfOk, IsSome};
+ghost use Rattle.std.specs.Prelude.{◌≡◌, replicate, IfOk, IsSome};
 ghost use Rattle.alone_run.specs.DataWords.{data_word, with_data_word};
 
 use std::alloc::{AllocError, Global};

@@ -44,13 +44,23 @@ impl Model for Alone {
     ghost invariant = { λ a. IsAt a.task a.count a.machine };
 }
 
+/// Ends a machine whose fuel is used, where nothing else has ended it. It stands out of line, so that a run has only a comparison for it.
+#[inline(never)]
+fn run_out(machine: &mut Machine)
+    ensures after { (T : Task) (s : AloneState) → StandsFor T s machine.old → StandsFor T (fuel_checked_state T T.fuel s) machine.new }
+{
+    if machine.end.is_none() {
+        machine.end = Some(End::OutOfSteps);
+    }
+}
+
 /// Used fuel ends a machine that nothing else has ended.
 fn use_up(fuel: u32, count: u32, machine: &mut Machine)
     ensures after { (T : Task) (s : AloneState) → T.fuel ≡ fuel → StandsFor T s machine.old →
         StandsFor T (fuel_checked_state T count s) machine.new }
 {
-    if machine.end.is_none() && count == fuel {
-        machine.end = Some(End::OutOfSteps);
+    if count == fuel {
+        run_out(machine);
     }
 }
 
@@ -144,8 +154,9 @@ impl Alone {
         if self.machine.end.is_some() {
             return None;
         }
-        let control = advance(&self.task, self.count, &mut self.machine);
-        self.count += 1;
+        let count = self.count;
+        let control = advance(&self.task, count, &mut self.machine);
+        self.count = count + 1;
         Some(control)
     }
 
