@@ -2,7 +2,7 @@
 
 ghost use Rattle.std.specs.Prelude.{◌≡◌, ◌<◌, ◌≤◌, ◌%◌};
 ghost use Rattle.isa_model.specs.Arithmetic.{bit_of};
-ghost use Rattle.isa_model.specs.Bits.{bits, word_address};
+ghost use Rattle.isa_model.specs.Bits.{word_address};
 ghost use Rattle.hart_model.specs.Csrs.{mode_bits, legal_mode, is_bit_set, public};
 
 use hart_model::{Cell, Mode, Tag};

@@ -2,7 +2,7 @@
 
 ghost use Rattle.std.specs.Prelude.{◌≡◌, ◌%◌, option_map};
 ghost use Rattle.hart_model.specs.Cells.{blank};
-ghost use Rattle.hart_model.specs.HartState.{boot_hart, tick_of, latch_cell};
+ghost use Rattle.hart_model.specs.HartState.{boot_hart, tick_of};
 
 use context_slot::Context;
 use csr_trap::Csrs;

@@ -1,8 +1,7 @@
 //! The operands of an instruction in user mode.
 
 ghost use Rattle.std.specs.Prelude.{◌≡◌, None, if◌then◌else◌};
-ghost use Rattle.isa_model.specs.Arithmetic.{load_size as load_size_of, store_size as store_size_of};
-ghost use Rattle.isa_model.specs.Alone.{code_word_at, data_word_at, word_reached, word_or_else, is_data_address as is_data_address_of, is_privileged as is_privileged_instr, rs1_of, rs2_of};
+ghost use Rattle.isa_model.specs.Alone.{code_word_at, data_word_at, word_reached, word_or_else};
 ghost use Rattle.hart_model.specs.UserStep.{latch_value, is_access_allowed, user_operands, user_code_word};
 ghost use Rattle.rv_effect.specs.View.{operands_of};
 
@@ -95,8 +94,8 @@ impl Hart {
     pub(crate) fn user_values(&self, body: &Body, instr: &Instr) -> Operands
         ensures operands { operands_of result ≡ user_operands self.now body.now instr.now }
     {
-        let rs1 = self.value(Latch::Reg(first_register(instr)));
-        let rs2 = self.value(Latch::Reg(second_register(instr)));
+        let rs1 = self.register(first_register(instr)).value;
+        let rs2 = self.register(second_register(instr)).value;
         Operands {
             rs1,
             rs2,

@@ -1,7 +1,7 @@
 //! The headers of packed entries.
 
 ghost use Rattle.std.specs.Prelude.{◌≡◌, ◌<◌};
-ghost use Rattle.probe_log.specs.Packing.{latch_code, why_code, names_now, named_code, hart_follows, pc_follows, differs, flag, header_of, header_word};
+ghost use Rattle.probe_log.specs.Packing.{latch_code, why_code, names_now, named_code, hart_follows, pc_follows, flag, header_of, header_word};
 ghost use Rattle.probe_log.specs.Unpacking.{is_set, header_in, IsLatch, NamesLatch, IsEntry};
 
 use hart_model::{Probe, Side, Why};

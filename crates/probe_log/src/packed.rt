@@ -6,7 +6,7 @@ ghost use Rattle.probe_log.specs.Reading.{IsAt, last_of};
 
 use crate::keeper::Keeper;
 use crate::packing::{push_entry, push_start};
-use crate::reader::{BLOCK_LEN, Reader};
+use crate::reader::Reader;
 use hart_model::Probe;
 use std::alloc::{AllocError, Global};
 use std::marker::Model;
