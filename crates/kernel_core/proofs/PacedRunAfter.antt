@@ -51,18 +51,12 @@ module _ (r : RunValue) (number : ℕ) (h : HartState) (is : slice_get r.harts n
     ticked-is : t ≡ with_board_and_hart r r.board number due
     ticked-is = ap (with_due plan progress number r) is
 
-    ticked-hart : slice_get t.harts number ≡ Some due
-    ticked-hart = ap (λ (v : RunValue). slice_get v.harts number) ticked-is ∙ get-set_same r.harts number h due is
-
     -- it is kept, with the tick or without
     kept-by : (b : Bool) (loaded : Loaded) → IsRunKept loaded r → IsRunKept loaded (with_board_and_hart r r.board number (ticked_if b h))
     kept-by true loaded run = kept-tick r number h is (ticked_if true h) refl loaded run
     kept-by false loaded run =
         let P : List HartState → Type 0 = λ hs. IsRunKept loaded (record { board = r.board; harts = hs; kernel = r.kernel; actions = r.actions }) in
         subst P (sym (set-same r.harts number h is)) run
-
-    pub kept-ticked : (loaded : Loaded) → IsRunKept loaded r → IsRunKept loaded t
-    kept-ticked loaded run = subst (IsRunKept loaded) (sym ticked-is) (kept-by (is_tick_due plan progress h) loaded run)
 
     -- and the hart may make its step then
     pub can-go-due : (loaded : Loaded) → IsRunKept loaded r → number < length r.harts → length r.board.lists.order < r.actions

@@ -63,6 +63,8 @@ impl<K: Keeper> Keeper for Counted<K> {
         self.keeper.room()
     }
 
+    /// It is inlined, so that an entry that is only counted is never put together in memory.
+    #[inline(always)]
     fn put(&mut self, probe: Probe) {
         let entry = &probe;
         self.keeper.put(*entry);

@@ -1,6 +1,6 @@
 //! What a core keeps beside each of its harts.
 
-ghost use Rattle.std.specs.Prelude.{◌≡◌, replicate, IfOk, length};
+ghost use Rattle.std.specs.Prelude.{◌≡◌};
 ghost use Rattle.kernel_core.specs.Seats.{stopped_by};
 
 use core_model::Action;

@@ -92,9 +92,6 @@ module _ (k : KernelParts) (loaded : Loaded) (one : EachHart loaded.tasks k) (nu
     abbrev InCore : ℕ → CoreState → StepsToAction
     InCore steps c = steps_to_action k.code.words plan pace number steps c
 
-    steps-parts : (a b : StepsToAction) → a.events ≡ b.events → a.core ≡ b.core → a.action ≡ b.action → a ≡ b
-    steps-parts a b events core action = rw (events, core, action) refl
-
     made-now : (further : CoreState → StepsToAction) (events : List Event) (d : CoreState) (action : Option Action) (x : Action) → action ≡ Some x
         → unless_action further events d action ≡ record { events = events; core = d; action = action }
     made-now further events d None x is = absurd (cc is)

@@ -1,7 +1,6 @@
 -- The bodies of a loaded bundle are what a board is booted with.
-use Rattle.std.proofs.Common.{ℕ, List, sym, ap, subst, ◌∙◌}
+use Rattle.std.proofs.Common.{List, sym, ap, subst, ◌∙◌}
 use Rattle.hart_model.specs.Context.{BodyState}
-use Rattle.core_model.specs.Board.{boot_board}
 use Rattle.core_model.specs.Core.{bodies_from}
 use Rattle.core_invariant.specs.KernelStates.{emitted_parts}
 use Rattle.core_invariant.proofs.Proved.{emitted-is-kernel}

@@ -1,5 +1,5 @@
 -- A core at boot is that of its bundle and its kernel.
-use Rattle.std.proofs.Common.{ℕ, List, map, refl, sym, ap, subst, ◌∙◌, arith}
+use Rattle.std.proofs.Common.{ℕ, List, map, refl, ap, subst, ◌∙◌, arith}
 use Rattle.core_model.specs.declared.plan.Plan.{Plan}
 use Rattle.core_model.specs.KernelWords.{KernelCodeState}
 use Rattle.core_model.specs.Core.{harts_from}
