@@ -1,6 +1,6 @@
 //! The places of the workers, before they begin.
 
-ghost use Rattle.std.specs.Prelude.{◌≡◌, ◌≤◌, vec_len, vec_capacity, IfOk};
+ghost use Rattle.std.specs.Prelude.{◌≡◌, vec_len, IfOk};
 ghost use Rattle.core_model.specs.Loaded.{IsLoaded};
 ghost use Rattle.turn_lock.specs.Passes.{AreNewPasses, lock_frame};
 ghost use Rattle.hart_runner.specs.Places.{AreReadyPlaces};

@@ -9,7 +9,6 @@ use crate::course::Course;
 use crate::groups::Group;
 use crate::rows::Row;
 use count_differences::least_difference;
-use isa_model::Latch;
 use probing_laws::Verdict;
 use std::alloc::{AllocError, Global};
 

@@ -3,7 +3,6 @@
 ghost use Rattle.std.specs.Prelude.{◌≡◌, ◌≤◌, IfOk};
 ghost use Rattle.std.specs.List.{AllByRecursion};
 ghost use Rattle.isa_model.specs.TaskPlaces.{IsValidTask};
-ghost use Rattle.isa_model.specs.AloneValue.{alone_value, alone_change};
 ghost use Rattle.probe_inspect.specs.Reached.{IsAfter};
 ghost use Rattle.probe_inspect.specs.Shown.{value_shown, change_shown, shown_of};
 

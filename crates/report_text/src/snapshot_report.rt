@@ -7,7 +7,7 @@ ghost use Rattle.report_text.specs.Texts.{end_text};
 ghost use Rattle.report_text.specs.AloneReport.{output_words, out_line};
 ghost use Rattle.report_text.specs.Report.{EndsAtHome, place_text, state_text, state_lines, states_from, probes_line, latches_line, order_line_of, report_of};
 
-use crate::append::{add, add_count, add_decimal, add_word};
+use crate::append::{add, add_count, add_word};
 use crate::texts::end_string;
 use alone_run::End;
 use core_model::Home;

@@ -11,7 +11,6 @@ ghost use Rattle.scrub_rules.specs.View.{content_write, word_outcome};
 use crate::rule::WordRule;
 use crate::write_list::{Write, WriteList};
 use hart_model::Place;
-use isa_model::RegNo;
 use routine_laws::Content;
 use std::marker::Model;
 
