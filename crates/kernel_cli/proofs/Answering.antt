@@ -1,5 +1,5 @@
 -- What the top call promises where the input is too large, where it is refused, and where it has an answer.
-use Rattle.std.proofs.Common.{◌≡◌, ◌≢◌, ◌⊎◌, ◌∙◌, ℕ, ◌+◌, ◌<◌, ◌≤◌, true, false, List, [], length, replicate, Option, Some, None, Result, Ok, Err, refl, sym, ap, inl, inr, subst, arith, lit<}
+use Rattle.std.proofs.Common.{◌≡◌, ◌⊎◌, ◌∙◌, ℕ, ◌+◌, ◌<◌, ◌≤◌, true, false, List, [], length, replicate, Option, Some, None, Result, Ok, Err, refl, sym, ap, inl, inr, subst, arith, lit<}
 use Rattle.std.proofs.lemmas.Bool.{lt-ltb, le-ltb}
 use Rattle.std.proofs.lemmas.List.{length-replicate}
 use Rattle.std.specs.Io.KnownBytes.{Appends, IsAtEnd}
@@ -28,7 +28,7 @@ use Rattle.kernel_cli.specs.declared.answer.Outcome.TheVariants as outcomes
 use Rattle.kernel_cli.specs.Commands.{harts_of, reads_source, reads_bundle}
 use Rattle.kernel_cli.specs.Replays.{order_report}
 use Rattle.kernel_cli.specs.Outcome.{status_of, IsAnswer, IsLoadedFrom, IsRefusedFor}
-use Rattle.kernel_cli.specs.Answer.{Answer, answer_of, input_answer, code_answer, gen_answer, bundle_answer, loaded_answer, command_answer, verdict_answer, done, too_large, input_limit}
+use Rattle.kernel_cli.specs.Answer.{Answer, answer_of, input_answer, code_answer, gen_answer, bundle_answer, loaded_answer, command_answer, verdict_answer, words_refused, done, too_large, input_limit}
 use Rattle.kernel_cli.specs.Soundness.{LoadAs}
 use Rattle.kernel_cli.specs.Findings.{Finding, Nothing, Ordered, judgement_in}
 use Rattle.masked_gen.specs.Generator.{generated}
@@ -38,7 +38,7 @@ use Rattle.kernel_cli.specs.Drills.{IsDrillOrder, drill_report}
 use Rattle.kernel_cli.proofs.SoundCores.{loads_as}
 use Rattle.kernel_cli.specs.Found.{IsRunOrder, IsFoundIn, Loads, AssembleAs, IsFound, SecureTasksStaySecure}
 use Rattle.kernel_cli.specs.Routines.{IsAnswerOver}
-use Rattle.kernel_cli.specs.TopCall.{WereLeft, Answers, AppendsPart, IsCoreSoundFor, BeginsToAnswer, WritesOrFails, IsTooLarge, IsFirstTaskSecure, WasInput, WasLoaded, IsAnswered}
+use Rattle.kernel_cli.specs.TopCall.{WereLeft, Answers, AppendsPart, IsCoreSoundFor, BeginsToAnswer, WritesOrFails, IsTooLarge, WasRead, IsReadOut, WasReadFor, IsFirstTaskSecure, WasInput, WasLoaded, IsAnswered}
 
 -- What is found of whatever a bundle loads as is found by a command that reads one.
 bundle_found : (command : Command) (bytes : List ℕ) (found : Finding) → reads_bundle command ≡ true
@@ -137,46 +137,6 @@ part_written command left left' held held' reads large a =
     let is = is_refused command some.0 reads some.2 in
     (some.0, Nothing, some.1, is.1, rw is.0 a)
 
--- the refusal was written, or a part of it
-pub answered_too_large : {S K : Type 0} (left : S → Option (List ℕ)) (read_faults : S → ℕ) (held : K → Option (List ℕ)) (write_faults : K → ℕ)
-    (command : Command) (src src' : S) (sink sink' : K) (status : Status)
-    → IsTooLarge (left src) (left src')
-    → ConsumesAtMost (left src) (left src') (input_limit + 1)
-    → WritesOrFails BadInput (held sink) (held sink') (write_faults sink) (write_faults sink') too_large.text status
-    → reads_source (Some command) ≡ true
-    → IsCoreSoundFor (Some command) (left src)
-    → IsAnswered left read_faults held write_faults (Some command) src src' sink sink' status
-answered_too_large left read_faults held write_faults command src src' sink sink' status large taken (inl w) reads sound = record {
-  refused = λ e. absurd cc;
-  unread = λ e. absurd (cc (sym reads ∙ e));
-  bad_words = λ e. absurd cc;
-  fine = λ e. absurd cc;
-  bad_input = λ e. (inr large, all_written command (left src) (left src') _ _ reads large w.1);
-  log_full = λ e. absurd cc;
-  verdict = λ e. absurd cc;
-  read_fault = λ e. absurd cc;
-  write_fault = λ e. absurd cc;
-  memory = λ e. absurd cc;
-  cores_sound = sound;
-  certified = λ _ e. absurd cc;
-  taken = taken;
-}
-answered_too_large left read_faults held write_faults command src src' sink sink' status large taken (inr w) reads sound = record {
-  refused = λ e. absurd cc;
-  unread = λ e. absurd (cc (sym reads ∙ e));
-  bad_words = λ e. absurd cc;
-  fine = λ e. absurd cc;
-  bad_input = λ e. absurd cc;
-  log_full = λ e. absurd cc;
-  verdict = λ e. absurd cc;
-  read_fault = λ e. absurd cc;
-  write_fault = λ e. (w.1, part_written command (left src) (left src') _ _ reads large w.2, λ _. inr large);
-  memory = λ e. absurd cc;
-  cores_sound = sound;
-  certified = λ _ e. absurd cc;
-  taken = taken;
-}
-
 -- the answer over no more bytes than the limit
 input_answered : (command : Command) (found : Finding) (bytes : List ℕ) → length bytes ≤ input_limit
     → input_answer command found bytes ≡ bundle_answer command found (bundle_of bytes)
@@ -186,15 +146,19 @@ is_answered_by_bundle : (command : Command) (found : Finding) (bytes : List ℕ)
     → answer_of (Some command) found bytes ≡ bundle_answer command found (bundle_of bytes)
 is_answered_by_bundle command found bytes reads within = reading_answer command found bytes reads ∙ input_answered command found bytes within
 
--- an answer is no fault and no refusal of words
-pub data IsOfAnswer (status : Status) : Type 0 where
-  OfAnswer : status ≢ BadWords → status ≢ ReadFault → status ≢ WriteFault → status ≢ Memory → IsOfAnswer status
+-- the statuses of an answer: neither a fault nor a refusal of words
+abbrev IsOfAnswer : Status → Type 0
+IsOfAnswer Fine = Unit {0}
+IsOfAnswer statuses.Verdict = Unit {0}
+IsOfAnswer BadInput = Unit {0}
+IsOfAnswer LogFull = Unit {0}
+IsOfAnswer status = ⊥
 
 of_answer : (outcome : Outcome) → IsOfAnswer (status_of outcome)
-of_answer outcomes.Fine = OfAnswer (λ e. cc) (λ e. cc) (λ e. cc) (λ e. cc)
-of_answer outcomes.Verdict = OfAnswer (λ e. cc) (λ e. cc) (λ e. cc) (λ e. cc)
-of_answer outcomes.BadInput = OfAnswer (λ e. cc) (λ e. cc) (λ e. cc) (λ e. cc)
-of_answer outcomes.LogFull = OfAnswer (λ e. cc) (λ e. cc) (λ e. cc) (λ e. cc)
+of_answer outcomes.Fine = tt
+of_answer outcomes.Verdict = tt
+of_answer outcomes.BadInput = tt
+of_answer outcomes.LogFull = tt
 
 -- A verdict whose answer is fine says that the task is secure.
 fine_is_secure : (T : Task) (worlds : List World) (judgement : Result Verdict CertFault) → IsCertified T worlds judgement
@@ -236,72 +200,6 @@ pub record IsBacked (command : Command) (left : Option (List ℕ)) : Type 0 wher
   pub cores : IsCoreSoundFor (Some command) left
   pub securing : SecureTasksStaySecure
 
--- The answer was written, or a part of it.
-answered_by : {S K : Type 0} (left : S → Option (List ℕ)) (read_faults : S → ℕ) (held : K → Option (List ℕ)) (write_faults : K → ℕ)
-    (command : Command) (src src' : S) (sink sink' : K) (status : Status) (bytes : List ℕ) (found : Finding) (answer : Answer)
-    → WereLeft bytes (left src) → IsFound (Some command) bytes found → answer_of (Some command) found bytes ≡ answer → IsOfAnswer answer.status
-    → IsAtEnd (left src') → ConsumesAtMost (left src) (left src') (input_limit + 1)
-    → WritesOrFails answer.status (held sink) (held sink') (write_faults sink) (write_faults sink') answer.text status
-    → IsBacked command (left src)
-    → IsAnswered left read_faults held write_faults (Some command) src src' sink sink' status
-answered_by left read_faults held write_faults command src src' sink sink' status bytes found answer were finds is (OfAnswer no_words no_read no_write no_memory) end taken (inl w) backed =
-    let written : (asked : Status) → status ≡ asked → Answers (Some command) asked (left src) (held sink) (held sink') =
-    λ asked e. (
-      bytes,
-      found,
-      were,
-      finds,
-      ap (λ (a : Answer). a.status) is ∙ sym w.0 ∙ e,
-      subst (λ (text : List ℕ). Appends (held sink) (held sink') text) (sym (ap (λ (a : Answer). a.text) is)) w.1,
-    ) in
-    record {
-      refused = λ e. absurd cc;
-      unread = λ e. absurd (cc (sym backed.reads ∙ e));
-      bad_words = λ e. absurd (no_words (sym w.0 ∙ e));
-      fine = λ e. (λ _. end, written Fine e);
-      bad_input = λ e. (inl end, written BadInput e);
-      log_full = λ e. (end, written LogFull e);
-      verdict = λ e. (end, written statuses.Verdict e);
-      read_fault = λ e. absurd (no_read (sym w.0 ∙ e));
-      write_fault = λ e. absurd (no_write (sym w.0 ∙ e));
-      memory = λ e. absurd (no_memory (sym w.0 ∙ e));
-      cores_sound = backed.cores;
-      certified = λ e fine. for_command command bytes found (left src) finds backed.securing were e (ap (λ (a : Answer). a.status) is ∙ sym w.0 ∙ fine);
-      taken = taken;
-    }
-answered_by left read_faults held write_faults command src src' sink sink' status bytes found answer were finds is kind end taken (inr w) backed =
-    let early_writes : BeginsToAnswer (Some command) (left src) (held sink) (held sink') =
-    (bytes, found, were, finds, subst (λ (text : List ℕ). AppendsPart (held sink) (held sink') text) (sym (ap (λ (a : Answer). a.text) is)) w.2) in
-    record {
-      refused = λ e. absurd cc;
-      unread = λ e. absurd (cc (sym backed.reads ∙ e));
-      bad_words = λ e. absurd cc;
-      fine = λ e. absurd cc;
-      bad_input = λ e. absurd cc;
-      log_full = λ e. absurd cc;
-      verdict = λ e. absurd cc;
-      read_fault = λ e. absurd cc;
-      write_fault = λ e. (w.1, early_writes, λ _. inl end);
-      memory = λ e. absurd cc;
-      cores_sound = backed.cores;
-      certified = λ _ e. absurd cc;
-      taken = taken;
-    }
-
--- so where a response is this answer
-answered_so : {S K : Type 0} (left : S → Option (List ℕ)) (read_faults : S → ℕ) (held : K → Option (List ℕ)) (write_faults : K → ℕ)
-    (command : Command) (src src' : S) (sink sink' : K) (status : Status) (bytes : List ℕ) (found : Finding) (response : Response) (answer : Answer)
-    → WereLeft bytes (left src) → IsFound (Some command) bytes found → answer_of (Some command) found bytes ≡ answer → IsAnswer response answer
-    → IsAtEnd (left src') → ConsumesAtMost (left src) (left src') (input_limit + 1)
-    → WritesOrFails (status_of response.outcome) (held sink) (held sink') (write_faults sink) (write_faults sink') response.text.items status
-    → IsBacked command (left src)
-    → IsAnswered left read_faults held write_faults (Some command) src src' sink sink' status
-answered_so left read_faults held write_faults command src src' sink sink' status bytes found response answer were finds is by end taken written backed =
-    let W : Status → List ℕ → Type 0 = λ asked text. WritesOrFails asked (held sink) (held sink') (write_faults sink) (write_faults sink') text status in
-    answered_by left read_faults held write_faults command src src' sink sink' status bytes found answer were finds is
-    (subst IsOfAnswer by.status (of_answer response.outcome)) end taken
-    (subst (λ (text : List ℕ). W answer.status text) by.text (subst (λ (asked : Status). W asked response.text.items) by.status written)) backed
-
 -- Bytes that are refused load as nothing.
 refused_load_as_nothing : (harts : ℕ) (bytes : List ℕ) (response : Response) → IsRefusedFor harts bytes response → (loaded : Loaded)
     → LoadAs harts bytes loaded → ⊥
@@ -310,31 +208,6 @@ refused_load_as_nothing harts bytes response r loaded l =
     sym (ap status_of r.outcome) ∙ (r.answer (Run harts) Nothing refl).status ∙ ap (λ b. (bundle_answer (Run harts) Nothing b).status) l.reads
     ∙ ap (λ x. (loaded_answer (Run harts) Nothing x).status) l.loads in
     absurd (cc both)
-
--- The refusal of the input was written, or a part of it.
-pub answered_refused : {S K : Type 0} (left : S → Option (List ℕ)) (read_faults : S → ℕ) (held : K → Option (List ℕ)) (write_faults : K → ℕ)
-    (command : Command) (src src' : S) (sink sink' : K) (status : Status) (bytes : List ℕ) (response : Response)
-    → reads_bundle command ≡ true → WasInput (left src) (left src') bytes
-    → IsRefusedFor (harts_of command) bytes response
-    → WritesOrFails (status_of response.outcome) (held sink) (held sink') (write_faults sink) (write_faults sink') response.text.items status
-    → IsBacked command (left src)
-    → IsAnswered left read_faults held write_faults (Some command) src src' sink sink' status
-answered_refused left read_faults held write_faults command src src' sink sink' status bytes response reads was r written backed =
-    answered_so left read_faults held write_faults command src src' sink sink' status bytes Nothing response (bundle_answer command Nothing (bundle_of bytes)) was.were
-    (none_found command bytes reads (λ loaded l. refused_load_as_nothing (harts_of command) bytes response r loaded l))
-    (is_answered_by_bundle command Nothing bytes reads was.within) (r.answer command Nothing refl) was.end was.taken written backed
-
--- The answer over an input of code was written, or a part of it.
-pub answered_code : {S K : Type 0} (left : S → Option (List ℕ)) (read_faults : S → ℕ) (held : K → Option (List ℕ)) (write_faults : K → ℕ)
-    (command : Command) (src src' : S) (sink sink' : K) (status : Status) (bytes : List ℕ) (response : Response)
-    → WasInput (left src) (left src') bytes
-    → IsAnswerOver command bytes response
-    → WritesOrFails (status_of response.outcome) (held sink) (held sink') (write_faults sink) (write_faults sink') response.text.items status
-    → IsBacked command (left src)
-    → IsAnswered left read_faults held write_faults (Some command) src src' sink sink' status
-answered_code left read_faults held write_faults command src src' sink sink' status bytes response was answer written backed =
-    answered_so left read_faults held write_faults command src src' sink sink' status bytes answer.0 response (answer_of (Some command) answer.0 bytes) was.were
-    answer.1 refl answer.2 was.end was.taken written backed
 
 -- the answer over bytes that were loaded
 is_answered_by_loaded : (command : Command) (found : Finding) (bytes : List ℕ) (loaded : Loaded) → reads_bundle command ≡ true → length bytes ≤ input_limit
@@ -353,96 +226,6 @@ found_of : (command : Command) (bytes : List ℕ) (loaded : Loaded) (found : Fin
 found_of command bytes loaded found reads from is = bundle_found command bytes found reads
     (λ other l. subst (λ (x : Loaded). IsFoundIn command x found) (one_loaded (harts_of command) bytes loaded other from (loads_as command bytes other reads l)) is)
 
--- The answer over the bundle was written, or a part of it.
-pub answered_loaded : {S K : Type 0} (left : S → Option (List ℕ)) (read_faults : S → ℕ) (held : K → Option (List ℕ)) (write_faults : K → ℕ)
-    (command : Command) (src src' : S) (sink sink' : K) (status : Status) (loaded : Loaded) (found : Finding) (response : Response)
-    → reads_bundle command ≡ true
-    → WasLoaded (harts_of command) (left src) (left src') loaded
-    → IsFoundIn command loaded found
-    → IsAnswer response (command_answer command found loaded)
-    → WritesOrFails (status_of response.outcome) (held sink) (held sink') (write_faults sink) (write_faults sink') response.text.items status
-    → IsBacked command (left src)
-    → IsAnswered left read_faults held write_faults (Some command) src src' sink sink' status
-answered_loaded left read_faults held write_faults command src src' sink sink' status loaded found response reads was finds is written backed =
-    answered_so left read_faults held write_faults command src src' sink sink' status was.bytes found response (command_answer command found loaded) was.were
-    (found_of command was.bytes loaded found reads was.from finds) (is_answered_by_loaded command found was.bytes loaded reads was.within was.from) is was.end was.taken
-    written backed
-
--- The report of a run was written, or a part of it.
-answered_run : {S K : Type 0} (left : S → Option (List ℕ)) (read_faults : S → ℕ) (held : K → Option (List ℕ)) (write_faults : K → ℕ)
-    (harts : ℕ) (src src' : S) (sink sink' : K) (status : Status) (loaded : Loaded) (order : List ℕ)
-    → WasLoaded harts (left src) (left src') loaded
-    → IsRunOrder loaded order
-    → WritesOrFails Fine (held sink) (held sink') (write_faults sink) (write_faults sink') (order_report loaded order) status
-    → IsBacked (Run harts) (left src)
-    → IsAnswered left read_faults held write_faults (Some (Run harts)) src src' sink sink' status
-answered_run left read_faults held write_faults harts src src' sink sink' status loaded order was run written backed =
-    answered_by left read_faults held write_faults (Run harts) src src' sink sink' status was.bytes (Ordered order) (done (order_report loaded order)) was.were
-    (found_of (Run harts) was.bytes loaded (Ordered order) refl was.from run) (is_answered_by_loaded (Run harts) (Ordered order) was.bytes loaded refl was.within was.from)
-    (OfAnswer (λ e. cc) (λ e. cc) (λ e. cc) (λ e. cc)) was.end was.taken written backed
-
--- The source counted a fault.
-pub answered_unread : {S K : Type 0} (left : S → Option (List ℕ)) (read_faults : S → ℕ) (held : K → Option (List ℕ)) (write_faults : K → ℕ)
-    (command : Command) (src src' : S) (sink : K)
-    → Rose (read_faults src) (read_faults src')
-    → ConsumesAtMost (left src) (left src') (input_limit + 1)
-    → reads_source (Some command) ≡ true
-    → IsCoreSoundFor (Some command) (left src)
-    → IsAnswered left read_faults held write_faults (Some command) src src' sink sink ReadFault
-answered_unread left read_faults held write_faults command src src' sink rose taken reads sound = record {
-  refused = λ e. absurd cc;
-  unread = λ e. absurd (cc (sym reads ∙ e));
-  bad_words = λ e. absurd cc;
-  fine = λ e. absurd cc;
-  bad_input = λ e. absurd cc;
-  log_full = λ e. absurd cc;
-  verdict = λ e. absurd cc;
-  read_fault = λ e. (rose, reads, refl);
-  write_fault = λ e. absurd cc;
-  memory = λ e. absurd cc;
-  cores_sound = sound;
-  certified = λ _ e. absurd cc;
-  taken = taken;
-}
-
--- Memory ran out before anything was written.
-pub answered_without_memory : {S K : Type 0} (left : S → Option (List ℕ)) (read_faults : S → ℕ) (held : K → Option (List ℕ)) (write_faults : K → ℕ)
-    (command : Command) (src src' : S) (sink : K)
-    → ConsumesAtMost (left src) (left src') (input_limit + 1)
-    → reads_source (Some command) ≡ true
-    → IsCoreSoundFor (Some command) (left src)
-    → IsAnswered left read_faults held write_faults (Some command) src src' sink sink Memory
-answered_without_memory left read_faults held write_faults command src src' sink taken reads sound = record {
-  refused = λ e. absurd cc;
-  unread = λ e. absurd (cc (sym reads ∙ e));
-  bad_words = λ e. absurd cc;
-  fine = λ e. absurd cc;
-  bad_input = λ e. absurd cc;
-  log_full = λ e. absurd cc;
-  verdict = λ e. absurd cc;
-  read_fault = λ e. absurd cc;
-  write_fault = λ e. absurd cc;
-  memory = λ e. refl;
-  cores_sound = sound;
-  certified = λ _ e. absurd cc;
-  taken = taken;
-}
-
--- The end of a run over a bundle that loads.
-pub answered_after_run : {S K : Type 0} (left : S → Option (List ℕ)) (read_faults : S → ℕ) (held : K → Option (List ℕ)) (write_faults : K → ℕ)
-    (harts : ℕ) (src src' : S) (sink sink' : K) (status : Status) (loaded : Loaded)
-    → WasLoaded harts (left src) (left src') loaded
-    → ((sink' ≡ sink) × (status ≡ Memory)) ⊎ ((order : List ℕ) × IsRunOrder loaded order
-    × WritesOrFails Fine (held sink) (held sink') (write_faults sink) (write_faults sink') (order_report loaded order) status)
-    → IsBacked (Run harts) (left src)
-    → IsAnswered left read_faults held write_faults (Some (Run harts)) src src' sink sink' status
-answered_after_run left read_faults held write_faults harts src src' sink sink' status loaded was (inl none) backed =
-    let none_written = answered_without_memory left read_faults held write_faults (Run harts) src src' sink was.taken refl backed.cores in
-    subst (λ k. IsAnswered left read_faults held write_faults (Some (Run harts)) src src' sink k status) (sym none.0)
-    (subst (λ (s : Status). IsAnswered left read_faults held write_faults (Some (Run harts)) src src' sink sink s) (sym none.1) none_written)
-answered_after_run left read_faults held write_faults harts src src' sink sink' status loaded was (inr run) backed =
-    answered_run left read_faults held write_faults harts src src' sink sink' status loaded run.0 was run.1 run.2 backed
-
 -- bytes that may have been left
 some_left : (left : Option (List ℕ)) → (bytes : List ℕ) × WereLeft bytes left
 some_left None = ([], tt)
@@ -453,122 +236,261 @@ nothing_taken : (left : Option (List ℕ)) (most : ℕ) → ConsumesAtMost left 
 nothing_taken None most = ([], omega arith, tt)
 nothing_taken (Some bytes) most = ([], omega arith, refl)
 
--- Memory ran out before anything was written of the answer to a command that doesn't read.
-unread_without_memory : {S K : Type 0} (left : S → Option (List ℕ)) (read_faults : S → ℕ) (held : K → Option (List ℕ)) (write_faults : K → ℕ)
-    (command : Command) (src : S) (sink : K)
-    → reads_source (Some command) ≡ false → IsCoreSoundFor (Some command) (left src) → (Some command ≡ Some Certify → ⊥)
-    → IsAnswered left read_faults held write_faults (Some command) src src sink sink Memory
-unread_without_memory left read_faults held write_faults command src sink unread sound other = record {
-  refused = λ e. absurd (cc e);
-  unread = λ e. refl;
-  bad_words = λ e. absurd cc;
-  fine = λ e. absurd cc;
-  bad_input = λ e. absurd cc;
-  log_full = λ e. absurd cc;
-  verdict = λ e. absurd cc;
-  read_fault = λ e. absurd cc;
-  write_fault = λ e. absurd cc;
-  memory = λ e. refl;
-  cores_sound = sound;
-  certified = λ e _. absurd (other e);
-  taken = nothing_taken (left src) (input_limit + 1);
-}
+-- Of a source and a sink: what their bytes are, as far as they tell them, and the faults that they count.
+module _ {S K : Type 0} (left : S → Option (List ℕ)) (read_faults : S → ℕ) (held : K → Option (List ℕ)) (write_faults : K → ℕ) where
+  abbrev IsAnsweredBy : Command → S → S → K → K → Status → Type 0
+  IsAnsweredBy command src src' sink sink' status = IsAnswered left read_faults held write_faults (Some command) src src' sink sink' status
 
--- It was written, or a part of it.
-unread_written : {S K : Type 0} (left : S → Option (List ℕ)) (read_faults : S → ℕ) (held : K → Option (List ℕ)) (write_faults : K → ℕ)
-    (command : Command) (src : S) (sink sink' : K) (status : Status) (found : Finding) (text : List ℕ)
-    → reads_source (Some command) ≡ false → IsCoreSoundFor (Some command) (left src) → (Some command ≡ Some Certify → ⊥)
-    → ((bytes : List ℕ) → IsFound (Some command) bytes found) → ((bytes : List ℕ) → answer_of (Some command) found bytes ≡ done text)
-    → WritesOrFails Fine (held sink) (held sink') (write_faults sink) (write_faults sink') text status
-    → IsAnswered left read_faults held write_faults (Some command) src src sink sink' status
-unread_written left read_faults held write_faults command src sink sink' status found text unread sound other finds is (inl w) = record {
-  refused = λ e. absurd (cc e);
-  unread = λ e. refl;
-  bad_words = λ e. absurd (cc (sym w.0 ∙ e));
-  fine = λ e. (let some = some_left (left src) in (
-    λ reads. absurd (cc (sym unread ∙ reads)),
-    (
-      some.0,
-      found,
-      some.1,
-      finds some.0,
-      ap (λ (a : Answer). a.status) (is some.0),
-      subst (λ (t : List ℕ). Appends (held sink) (held sink') t) (sym (ap (λ (a : Answer). a.text) (is some.0))) w.1,
-    ),
-  ));
-  bad_input = λ e. absurd (cc (sym w.0 ∙ e));
-  log_full = λ e. absurd (cc (sym w.0 ∙ e));
-  verdict = λ e. absurd (cc (sym w.0 ∙ e));
-  read_fault = λ e. absurd (cc (sym w.0 ∙ e));
-  write_fault = λ e. absurd (cc (sym w.0 ∙ e));
-  memory = λ e. absurd (cc (sym w.0 ∙ e));
-  cores_sound = sound;
-  certified = λ e _. absurd (other e);
-  taken = nothing_taken (left src) (input_limit + 1);
-}
-unread_written left read_faults held write_faults command src sink sink' status found text unread sound other finds is (inr w) = record {
-  refused = λ e. absurd (cc e);
-  unread = λ e. refl;
-  bad_words = λ e. absurd (cc (sym w.0 ∙ e));
-  fine = λ e. absurd (cc (sym w.0 ∙ e));
-  bad_input = λ e. absurd (cc (sym w.0 ∙ e));
-  log_full = λ e. absurd (cc (sym w.0 ∙ e));
-  verdict = λ e. absurd (cc (sym w.0 ∙ e));
-  read_fault = λ e. absurd (cc (sym w.0 ∙ e));
-  write_fault = λ e. (let some = some_left (left src) in (
-    w.1,
-    (
-      some.0,
-      found,
-      some.1,
-      finds some.0,
-      subst (λ (t : List ℕ). AppendsPart (held sink) (held sink') t) (sym (ap (λ (a : Answer). a.text) (is some.0))) w.2,
-    ),
-    λ reads. absurd (cc (sym unread ∙ reads)),
-  ));
-  memory = λ e. absurd (cc (sym w.0 ∙ e));
-  cores_sound = sound;
-  certified = λ e _. absurd (other e);
-  taken = nothing_taken (left src) (input_limit + 1);
-}
+  abbrev IsWritten : Status → List ℕ → K → K → Status → Type 0
+  IsWritten asked text sink sink' status = WritesOrFails asked (held sink) (held sink') (write_faults sink) (write_faults sink') text status
 
--- The end of a command that doesn't read: memory ran out, or the answer was written.
-unread_ends : {S K : Type 0} (left : S → Option (List ℕ)) (read_faults : S → ℕ) (held : K → Option (List ℕ)) (write_faults : K → ℕ)
-    (command : Command) (src : S) (sink sink' : K) (status : Status)
-    → reads_source (Some command) ≡ false → IsCoreSoundFor (Some command) (left src) → (Some command ≡ Some Certify → ⊥)
-    → (sink' ≡ sink) → (status ≡ Memory)
-    → IsAnswered left read_faults held write_faults (Some command) src src sink sink' status
-unread_ends left read_faults held write_faults command src sink sink' status unread sound other same memory =
-    let none_written = unread_without_memory left read_faults held write_faults command src sink unread sound other in
-    subst (λ k. IsAnswered left read_faults held write_faults (Some command) src src sink k status) (sym same)
-    (subst (λ (s : Status). IsAnswered left read_faults held write_faults (Some command) src src sink sink s) (sym memory) none_written)
+  -- what a status promises beside what all do
+  abbrev Ending : Command → S → S → K → K → Status → Type 0
+  Ending command src src' sink sink' BadWords = (Some command ≡ None) × Appends (held sink) (held sink') words_refused.text
+  Ending command src src' sink sink' Fine = IsReadOut (Some command) (left src') × Answers (Some command) Fine (left src) (held sink) (held sink')
+  Ending command src src' sink sink' BadInput = WasRead (left src) (left src') × Answers (Some command) BadInput (left src) (held sink) (held sink')
+  Ending command src src' sink sink' LogFull = IsAtEnd (left src') × Answers (Some command) LogFull (left src) (held sink) (held sink')
+  Ending command src src' sink sink' statuses.Verdict =
+      IsAtEnd (left src') × Answers (Some command) statuses.Verdict (left src) (held sink) (held sink')
+  Ending command src src' sink sink' ReadFault =
+      Rose (read_faults src) (read_faults src') × (reads_source (Some command) ≡ true) × (sink' ≡ sink)
+  Ending command src src' sink sink' WriteFault =
+      Rose (write_faults sink) (write_faults sink') × BeginsToAnswer (Some command) (left src) (held sink) (held sink')
+      × WasReadFor (Some command) (left src) (left src')
+  Ending command src src' sink sink' Memory = sink' ≡ sink
 
--- The end of `gen`.
-pub answered_generated : {S K : Type 0} (left : S → Option (List ℕ)) (read_faults : S → ℕ) (held : K → Option (List ℕ)) (write_faults : K → ℕ)
-    (seed tasks : ℕ) (src : S) (sink sink' : K) (status : Status)
-    → ((sink' ≡ sink) × (status ≡ Memory)) ⊎ WritesOrFails Fine (held sink) (held sink') (write_faults sink) (write_faults sink') (gen_answer seed tasks).text status
-    → IsAnswered left read_faults held write_faults (Some (Gen seed tasks)) src src sink sink' status
-answered_generated left read_faults held write_faults seed tasks src sink sink' status (inl none) =
-    unread_ends left read_faults held write_faults (Gen seed tasks) src sink sink' status refl (λ runs. absurd runs) (λ e. cc e) none.0 none.1
-answered_generated left read_faults held write_faults seed tasks src sink sink' status (inr written) =
-    unread_written left read_faults held write_faults (Gen seed tasks) src sink sink' status Nothing (gen_answer seed tasks).text refl (λ runs. absurd runs) (λ e. cc e)
-    (λ bytes. λ loaded l. refl) (λ bytes. refl) written
+  -- so a call has ended as it promises
+  ended : (command : Command) (src src' : S) (sink sink' : K) (status : Status)
+      → (reads_source (Some command) ≡ false → src' ≡ src)
+      → Ending command src src' sink sink' status
+      → IsCoreSoundFor (Some command) (left src)
+      → (Some command ≡ Some Certify → status ≡ Fine → IsFirstTaskSecure (left src))
+      → ConsumesAtMost (left src) (left src') (input_limit + 1)
+      → IsAnsweredBy command src src' sink sink' status
+  ended command src src' sink sink' status unread ending sound certified taken =
+      let E : Status → Type 0 = λ s. Ending command src src' sink sink' s in
+      record {
+        refused = λ e. absurd cc;
+        unread = unread;
+        bad_words = λ e. subst E e ending;
+        fine = λ e. subst E e ending;
+        bad_input = λ e. subst E e ending;
+        log_full = λ e. subst E e ending;
+        verdict = λ e. subst E e ending;
+        read_fault = λ e. subst E e ending;
+        write_fault = λ e. subst E e ending;
+        memory = λ e. subst E e ending;
+        cores_sound = sound;
+        certified = certified;
+        taken = taken;
+      }
 
--- The end of `drill`.
-pub answered_drilled : {S K : Type 0} (left : S → Option (List ℕ)) (read_faults : S → ℕ) (held : K → Option (List ℕ)) (write_faults : K → ℕ)
-    (seed tasks : ℕ) (src : S) (sink sink' : K) (status : Status)
-    → AreGeneratedCoresSound → tasks ≤ 32
-    → ((sink' ≡ sink) × (status ≡ Memory)) ⊎ ((loaded : Loaded) × (loading_of (generated seed tasks) 1 ≡ Ok loaded) × (order : List ℕ) × IsDrillOrder kernel_code loaded order
-    × WritesOrFails Fine (held sink) (held sink') (write_faults sink) (write_faults sink') (drill_report kernel_code loaded order) status)
-    → IsAnswered left read_faults held write_faults (Some (Drill seed tasks)) src src sink sink' status
-answered_drilled left read_faults held write_faults seed tasks src sink sink' status cores few (inl none) =
-    unread_ends left read_faults held write_faults (Drill seed tasks) src sink sink' status refl
-    (λ runs bytes loaded were loads found. cores seed tasks few loaded loads (events_by (Drill seed tasks) found loaded)) (λ e. cc e) none.0 none.1
-answered_drilled left read_faults held write_faults seed tasks src sink sink' status cores few (inr written) =
-    let loaded = written.0 in
-    let loads = written.1 in
-    let order = written.2 in
-    unread_written left read_faults held write_faults (Drill seed tasks) src sink sink' status (Ordered order) (drill_report kernel_code loaded order) refl
-    (λ runs bytes loaded were loads found. cores seed tasks few loaded loads (events_by (Drill seed tasks) found loaded)) (λ e. cc e)
-    (λ bytes other l. subst (λ (x : Loaded). IsDrillOrder kernel_code x order) (cc (sym loads ∙ l)) written.3)
-    (λ bytes. ap (λ x. loaded_answer (Drill seed tasks) (Ordered order) x) loads) written.4
+  -- A text was written with the status that was asked for it, or a part of it.
+  ended_by_text : (command : Command) (src src' : S) (sink sink' : K) (asked status : Status) (text : List ℕ)
+      → (reads_source (Some command) ≡ false → src' ≡ src)
+      → (Appends (held sink) (held sink') text → Ending command src src' sink sink' asked)
+      → (AppendsPart (held sink) (held sink') text → BeginsToAnswer (Some command) (left src) (held sink) (held sink'))
+      → WasReadFor (Some command) (left src) (left src')
+      → IsCoreSoundFor (Some command) (left src)
+      → (Some command ≡ Some Certify → asked ≡ Fine → IsFirstTaskSecure (left src))
+      → ConsumesAtMost (left src) (left src') (input_limit + 1)
+      → IsWritten asked text sink sink' status
+      → IsAnsweredBy command src src' sink sink' status
+  ended_by_text command src src' sink sink' asked status text unread whole part read sound certified taken (inl w) =
+      ended command src src' sink sink' status unread (subst (λ (s : Status). Ending command src src' sink sink' s) (sym w.0) (whole w.1)) sound
+      (λ e fine. certified e (sym w.0 ∙ fine)) taken
+  ended_by_text command src src' sink sink' asked status text unread whole part read sound certified taken (inr w) =
+      ended command src src' sink sink' status unread (subst (λ (s : Status). Ending command src src' sink sink' s) (sym w.0) (w.1, part w.2, read)) sound
+      (λ e fine. absurd (cc (sym w.0 ∙ fine))) taken
+
+  -- Memory ran out before anything was written.
+  ended_without_memory : (command : Command) (src src' : S) (sink sink' : K) (status : Status)
+      → (reads_source (Some command) ≡ false → src' ≡ src)
+      → IsCoreSoundFor (Some command) (left src)
+      → ConsumesAtMost (left src) (left src') (input_limit + 1)
+      → sink' ≡ sink → status ≡ Memory
+      → IsAnsweredBy command src src' sink sink' status
+  ended_without_memory command src src' sink sink' status unread sound taken same memory =
+      ended command src src' sink sink' status unread (subst (λ (s : Status). Ending command src src' sink sink' s) (sym memory) same) sound
+      (λ e fine. absurd (cc (sym memory ∙ fine))) taken
+
+  pub answered_without_memory : (command : Command) (src src' : S) (sink : K)
+      → ConsumesAtMost (left src) (left src') (input_limit + 1)
+      → reads_source (Some command) ≡ true
+      → IsCoreSoundFor (Some command) (left src)
+      → IsAnsweredBy command src src' sink sink Memory
+  answered_without_memory command src src' sink taken reads sound =
+      ended_without_memory command src src' sink sink Memory (λ e. absurd (cc (sym reads ∙ e))) sound taken refl refl
+
+  -- The source counted a fault.
+  pub answered_unread : (command : Command) (src src' : S) (sink : K)
+      → Rose (read_faults src) (read_faults src')
+      → ConsumesAtMost (left src) (left src') (input_limit + 1)
+      → reads_source (Some command) ≡ true
+      → IsCoreSoundFor (Some command) (left src)
+      → IsAnsweredBy command src src' sink sink ReadFault
+  answered_unread command src src' sink rose taken reads sound =
+      ended command src src' sink sink ReadFault (λ e. absurd (cc (sym reads ∙ e))) (rose, reads, refl) sound (λ _ fine. absurd (cc fine)) taken
+
+  -- The refusal of too many bytes was written, or a part of it.
+  pub answered_too_large : (command : Command) (src src' : S) (sink sink' : K) (status : Status)
+      → IsTooLarge (left src) (left src')
+      → ConsumesAtMost (left src) (left src') (input_limit + 1)
+      → IsWritten BadInput too_large.text sink sink' status
+      → reads_source (Some command) ≡ true
+      → IsCoreSoundFor (Some command) (left src)
+      → IsAnsweredBy command src src' sink sink' status
+  answered_too_large command src src' sink sink' status large taken written reads sound =
+      ended_by_text command src src' sink sink' BadInput status too_large.text (λ e. absurd (cc (sym reads ∙ e)))
+      (λ a. (inr large, all_written command (left src) (left src') _ _ reads large a)) (part_written command (left src) (left src') _ _ reads large)
+      (λ _. inr large) sound (λ _ fine. absurd (cc fine)) taken written
+
+  -- what an answer promises, by its status
+  of_status : (command : Command) (src src' : S) (sink sink' : K) (asked : Status) → IsOfAnswer asked → IsAtEnd (left src')
+      → Answers (Some command) asked (left src) (held sink) (held sink') → Ending command src src' sink sink' asked
+  of_status command src src' sink sink' Fine ok end a = (λ _. end, a)
+  of_status command src src' sink sink' statuses.Verdict ok end a = (end, a)
+  of_status command src src' sink sink' BadInput ok end a = (inl end, a)
+  of_status command src src' sink sink' LogFull ok end a = (end, a)
+  of_status command src src' sink sink' BadWords ok end a = absurd ok
+  of_status command src src' sink sink' ReadFault ok end a = absurd ok
+  of_status command src src' sink sink' WriteFault ok end a = absurd ok
+  of_status command src src' sink sink' Memory ok end a = absurd ok
+
+  -- The answer was written, or a part of it.
+  answered_by : (command : Command) (src src' : S) (sink sink' : K) (status : Status) (bytes : List ℕ) (found : Finding) (answer : Answer)
+      → WereLeft bytes (left src) → IsFound (Some command) bytes found → answer_of (Some command) found bytes ≡ answer → IsOfAnswer answer.status
+      → IsAtEnd (left src') → ConsumesAtMost (left src) (left src') (input_limit + 1)
+      → IsWritten answer.status answer.text sink sink' status
+      → IsBacked command (left src)
+      → IsAnsweredBy command src src' sink sink' status
+  answered_by command src src' sink sink' status bytes found answer were finds is kind end taken written backed =
+      let same_status = ap (λ (a : Answer). a.status) is in
+      let same_text = sym (ap (λ (a : Answer). a.text) is) in
+      ended_by_text command src src' sink sink' answer.status status answer.text (λ e. absurd (cc (sym backed.reads ∙ e)))
+      (λ a. of_status command src src' sink sink' answer.status kind end
+      (bytes, found, were, finds, same_status, subst (λ (text : List ℕ). Appends (held sink) (held sink') text) same_text a))
+      (λ a. (bytes, found, were, finds, subst (λ (text : List ℕ). AppendsPart (held sink) (held sink') text) same_text a))
+      (λ _. inl end) backed.cores
+      (λ e fine. for_command command bytes found (left src) finds backed.securing were e (same_status ∙ fine)) taken written
+
+  -- so where a response is this answer
+  answered_so : (command : Command) (src src' : S) (sink sink' : K) (status : Status) (bytes : List ℕ) (found : Finding) (response : Response) (answer : Answer)
+      → WereLeft bytes (left src) → IsFound (Some command) bytes found → answer_of (Some command) found bytes ≡ answer → IsAnswer response answer
+      → IsAtEnd (left src') → ConsumesAtMost (left src) (left src') (input_limit + 1)
+      → IsWritten (status_of response.outcome) response.text.items sink sink' status
+      → IsBacked command (left src)
+      → IsAnsweredBy command src src' sink sink' status
+  answered_so command src src' sink sink' status bytes found response answer were finds is by end taken written backed =
+      answered_by command src src' sink sink' status bytes found answer were finds is (subst IsOfAnswer by.status (of_answer response.outcome)) end taken
+      (subst (λ (text : List ℕ). IsWritten answer.status text sink sink' status) by.text
+      (subst (λ (asked : Status). IsWritten asked response.text.items sink sink' status) by.status written)) backed
+
+  -- The refusal of the input was written, or a part of it.
+  pub answered_refused : (command : Command) (src src' : S) (sink sink' : K) (status : Status) (bytes : List ℕ) (response : Response)
+      → reads_bundle command ≡ true → WasInput (left src) (left src') bytes
+      → IsRefusedFor (harts_of command) bytes response
+      → IsWritten (status_of response.outcome) response.text.items sink sink' status
+      → IsBacked command (left src)
+      → IsAnsweredBy command src src' sink sink' status
+  answered_refused command src src' sink sink' status bytes response reads was r written backed =
+      answered_so command src src' sink sink' status bytes Nothing response (bundle_answer command Nothing (bundle_of bytes)) was.were
+      (none_found command bytes reads (λ loaded l. refused_load_as_nothing (harts_of command) bytes response r loaded l))
+      (is_answered_by_bundle command Nothing bytes reads was.within) (r.answer command Nothing refl) was.end was.taken written backed
+
+  -- The answer over an input of code was written, or a part of it.
+  pub answered_code : (command : Command) (src src' : S) (sink sink' : K) (status : Status) (bytes : List ℕ) (response : Response)
+      → WasInput (left src) (left src') bytes
+      → IsAnswerOver command bytes response
+      → IsWritten (status_of response.outcome) response.text.items sink sink' status
+      → IsBacked command (left src)
+      → IsAnsweredBy command src src' sink sink' status
+  answered_code command src src' sink sink' status bytes response was answer written backed =
+      answered_so command src src' sink sink' status bytes answer.0 response (answer_of (Some command) answer.0 bytes) was.were
+      answer.1 refl answer.2 was.end was.taken written backed
+
+  -- The answer over the bundle was written, or a part of it.
+  pub answered_loaded : (command : Command) (src src' : S) (sink sink' : K) (status : Status) (loaded : Loaded) (found : Finding) (response : Response)
+      → reads_bundle command ≡ true
+      → WasLoaded (harts_of command) (left src) (left src') loaded
+      → IsFoundIn command loaded found
+      → IsAnswer response (command_answer command found loaded)
+      → IsWritten (status_of response.outcome) response.text.items sink sink' status
+      → IsBacked command (left src)
+      → IsAnsweredBy command src src' sink sink' status
+  answered_loaded command src src' sink sink' status loaded found response reads was finds is written backed =
+      answered_so command src src' sink sink' status was.bytes found response (command_answer command found loaded) was.were
+      (found_of command was.bytes loaded found reads was.from finds) (is_answered_by_loaded command found was.bytes loaded reads was.within was.from) is was.end was.taken
+      written backed
+
+  -- The end of a run over a bundle that loads: memory ran out, or its report was written, or a part of it.
+  pub answered_after_run : (harts : ℕ) (src src' : S) (sink sink' : K) (status : Status) (loaded : Loaded)
+      → WasLoaded harts (left src) (left src') loaded
+      → ((sink' ≡ sink) × (status ≡ Memory)) ⊎ ((order : List ℕ) × IsRunOrder loaded order × IsWritten Fine (order_report loaded order) sink sink' status)
+      → IsBacked (Run harts) (left src)
+      → IsAnsweredBy (Run harts) src src' sink sink' status
+  answered_after_run harts src src' sink sink' status loaded was (inl none) backed =
+      ended_without_memory (Run harts) src src' sink sink' status (λ e. absurd (cc e)) backed.cores was.taken none.0 none.1
+  answered_after_run harts src src' sink sink' status loaded was (inr run) backed =
+      let order = run.0 in
+      answered_by (Run harts) src src' sink sink' status was.bytes (Ordered order) (done (order_report loaded order)) was.were
+      (found_of (Run harts) was.bytes loaded (Ordered order) refl was.from run.1)
+      (is_answered_by_loaded (Run harts) (Ordered order) was.bytes loaded refl was.within was.from) tt was.end was.taken run.2 backed
+
+  -- The end of a command that doesn't read, nor certifies: memory ran out, or its answer was written, or a part of it.
+  unread_without_memory : (command : Command) (src : S) (sink sink' : K) (status : Status)
+      → IsCoreSoundFor (Some command) (left src) → (sink' ≡ sink) × (status ≡ Memory)
+      → IsAnsweredBy command src src sink sink' status
+  unread_without_memory command src sink sink' status sound none =
+      ended_without_memory command src src sink sink' status (λ _. refl) sound (nothing_taken (left src) (input_limit + 1)) none.0 none.1
+
+  unread_written : (command : Command) (src : S) (sink sink' : K) (status : Status) (found : Finding) (text : List ℕ)
+      → reads_source (Some command) ≡ false → IsCoreSoundFor (Some command) (left src) → (Some command ≡ Some Certify → ⊥)
+      → ((bytes : List ℕ) → IsFound (Some command) bytes found) → ((bytes : List ℕ) → answer_of (Some command) found bytes ≡ done text)
+      → IsWritten Fine text sink sink' status
+      → IsAnsweredBy command src src sink sink' status
+  unread_written command src sink sink' status found text unread sound other finds is written =
+      let some = some_left (left src) in
+      let same_text = sym (ap (λ (a : Answer). a.text) (is some.0)) in
+      ended_by_text command src src sink sink' Fine status text (λ _. refl)
+      (λ a. (
+        λ reads. absurd (cc (sym unread ∙ reads)),
+        (
+          some.0,
+          found,
+          some.1,
+          finds some.0,
+          ap (λ (a : Answer). a.status) (is some.0),
+          subst (λ (t : List ℕ). Appends (held sink) (held sink') t) same_text a,
+        ),
+      ))
+      (λ a. (some.0, found, some.1, finds some.0, subst (λ (t : List ℕ). AppendsPart (held sink) (held sink') t) same_text a))
+      (λ reads. absurd (cc (sym unread ∙ reads))) sound (λ e _. absurd (other e)) (nothing_taken (left src) (input_limit + 1)) written
+
+  -- The end of `gen`.
+  pub answered_generated : (seed tasks : ℕ) (src : S) (sink sink' : K) (status : Status)
+      → ((sink' ≡ sink) × (status ≡ Memory)) ⊎ IsWritten Fine (gen_answer seed tasks).text sink sink' status
+      → IsAnsweredBy (Gen seed tasks) src src sink sink' status
+  answered_generated seed tasks src sink sink' status (inl none) =
+      unread_without_memory (Gen seed tasks) src sink sink' status (λ runs. absurd runs) none
+  answered_generated seed tasks src sink sink' status (inr written) =
+      unread_written (Gen seed tasks) src sink sink' status Nothing (gen_answer seed tasks).text refl (λ runs. absurd runs) (λ e. cc e)
+      (λ bytes. λ loaded l. refl) (λ bytes. refl) written
+
+  -- The end of `drill`.
+  pub answered_drilled : (seed tasks : ℕ) (src : S) (sink sink' : K) (status : Status)
+      → AreGeneratedCoresSound → tasks ≤ 32
+      → ((sink' ≡ sink) × (status ≡ Memory)) ⊎ ((loaded : Loaded) × (loading_of (generated seed tasks) 1 ≡ Ok loaded) × (order : List ℕ)
+      × IsDrillOrder kernel_code loaded order × IsWritten Fine (drill_report kernel_code loaded order) sink sink' status)
+      → IsAnsweredBy (Drill seed tasks) src src sink sink' status
+  answered_drilled seed tasks src sink sink' status cores few (inl none) =
+      unread_without_memory (Drill seed tasks) src sink sink' status
+      (λ runs bytes loaded were loads found. cores seed tasks few loaded loads (events_by (Drill seed tasks) found loaded)) none
+  answered_drilled seed tasks src sink sink' status cores few (inr written) =
+      let loaded = written.0 in
+      let loads = written.1 in
+      let order = written.2 in
+      unread_written (Drill seed tasks) src sink sink' status (Ordered order) (drill_report kernel_code loaded order) refl
+      (λ runs bytes loaded were loads found. cores seed tasks few loaded loads (events_by (Drill seed tasks) found loaded)) (λ e. cc e)
+      (λ bytes other l. subst (λ (x : Loaded). IsDrillOrder kernel_code x order) (cc (sym loads ∙ l)) written.3)
+      (λ bytes. ap (λ x. loaded_answer (Drill seed tasks) (Ordered order) x) loads) written.4

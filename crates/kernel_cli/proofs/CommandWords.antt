@@ -10,7 +10,7 @@ use Rattle.core_model.proofs.Lists.{some-is}
 use Rattle.timer_plan.specs.Tokens.{IsDecimal}
 use Rattle.bundle_text.specs.Numbers.{decimal_of}
 use Rattle.bundle_text.proofs.RunTokens.{SpellsDecimal, decimal_spelled}
-use Rattle.kernel_cli.specs.Commands.{IsHartCount, IsNumberIn, SpellsCommand, hart_count, run_by, replay_by, within, number_in, gen_by, gen_of, drill_by, drill_of, lint_by, lint_of, HasTasks, command_with_probes, command_of, harts_of}
+use Rattle.kernel_cli.specs.Commands.{IsHartCount, IsNumberIn, IsSeed, IsTaskCount, SpellsNumbers, SpellsCommand, hart_count, run_by, replay_by, within, number_in, numbered, numbered_by, HasTasks, command_with_numbers, command_of, harts_of}
 
 -- a word that its test says is this one
 is_this : (word this : List ℕ) → bytes_eq word this ≡ true → word ∷ [] ≡ this ∷ []
@@ -129,50 +129,47 @@ spelled_number most low high n word is =
     ap (λ (b : Bool). cond b None (within low high (decimal_of word))) (le-ltb most (length word) is.few) ∙ ap (λ (o : Option ℕ). within low high o) decimal
     ∙ in_range_back low high n is.least is.greatest
 
--- the words of a bundle of a number
-gen_spelled : (detail more : List ℕ) (command : Command) (seed tasks : Option ℕ) → number_in 20 0 18446744073709551615 detail ≡ seed
-    → number_in 2 1 32 more ≡ tasks → gen_by seed tasks ≡ Some command → SpellsCommand (codes "gen" ∷ detail ∷ more ∷ []) command
-gen_spelled detail more command None tasks is_seed is_tasks h = absurd (cc h)
-gen_spelled detail more command (Some seed) None is_seed is_tasks h = absurd (cc h)
-gen_spelled detail more command (Some seed) (Some tasks) is_seed is_tasks h =
-    subst (λ (c : Command). SpellsCommand (codes "gen" ∷ detail ∷ more ∷ []) c) (some-is h)
-    (record {
-      seed_word = detail;
-      tasks_word = more;
-      words_are = refl;
-      seed_is = number_spelled 20 0 18446744073709551615 seed detail is_seed;
-      tasks_are = number_spelled 2 1 32 tasks more is_tasks;
-    })
+-- a word that its test says is this one, a seed and a number of tasks
+are_numbers : (name word detail more : List ℕ) (seed tasks : ℕ) → bytes_eq word name ≡ true → IsSeed detail seed → IsTaskCount more tasks
+    → SpellsNumbers name (word ∷ detail ∷ more ∷ []) seed tasks
+are_numbers name word detail more seed tasks is seed_is tasks_are = record {
+  seed_word = detail;
+  tasks_word = more;
+  words_are = ap (λ w. w ∷ detail ∷ more ∷ []) ((bytes_eq-Decides word name).0 is);
+  seed_is = seed_is;
+  tasks_are = tasks_are;
+}
 
--- and of its run
-drill_spelled : (detail more : List ℕ) (command : Command) (seed tasks : Option ℕ) → number_in 20 0 18446744073709551615 detail ≡ seed
-    → number_in 2 1 32 more ≡ tasks → drill_by seed tasks ≡ Some command → SpellsCommand (codes "drill" ∷ detail ∷ more ∷ []) command
-drill_spelled detail more command None tasks is_seed is_tasks h = absurd (cc h)
-drill_spelled detail more command (Some seed) None is_seed is_tasks h = absurd (cc h)
-drill_spelled detail more command (Some seed) (Some tasks) is_seed is_tasks h =
-    subst (λ (c : Command). SpellsCommand (codes "drill" ∷ detail ∷ more ∷ []) c) (some-is h)
-    (record {
-      seed_word = detail;
-      tasks_word = more;
-      words_are = refl;
-      seed_is = number_spelled 20 0 18446744073709551615 seed detail is_seed;
-      tasks_are = number_spelled 2 1 32 tasks more is_tasks;
-    })
+-- the words of a command about the bundle of a number, by the tests that decide it
+numbers_spelled : (word detail more : List ℕ) (command : Command) (seed tasks : ℕ) (gen drill lint : Bool)
+    → bytes_eq word (codes "gen") ≡ gen → bytes_eq word (codes "drill") ≡ drill → bytes_eq word (codes "lint") ≡ lint
+    → IsSeed detail seed → IsTaskCount more tasks
+    → cond gen (Some (Gen seed tasks)) (cond drill (Some (Drill seed tasks)) (cond lint (Some (LintDrill seed tasks)) None)) ≡ Some command
+    → SpellsCommand (word ∷ detail ∷ more ∷ []) command
+numbers_spelled word detail more command seed tasks true drill lint is is_drill is_lint seed_is tasks_are h =
+    subst (λ (c : Command). SpellsCommand (word ∷ detail ∷ more ∷ []) c) (some-is h) (are_numbers (codes "gen") word detail more seed tasks is seed_is tasks_are)
+numbers_spelled word detail more command seed tasks false true lint is is_drill is_lint seed_is tasks_are h =
+    subst (λ (c : Command). SpellsCommand (word ∷ detail ∷ more ∷ []) c) (some-is h)
+    (are_numbers (codes "drill") word detail more seed tasks is_drill seed_is tasks_are)
+numbers_spelled word detail more command seed tasks false false true is is_drill is_lint seed_is tasks_are h =
+    subst (λ (c : Command). SpellsCommand (word ∷ detail ∷ more ∷ []) c) (some-is h)
+    (are_numbers (codes "lint") word detail more seed tasks is_lint seed_is tasks_are)
+numbers_spelled word detail more command seed tasks false false false is is_drill is_lint seed_is tasks_are h = absurd (cc h)
 
--- and of its run with a routine of one's own
-lint_spelled : (detail more : List ℕ) (command : Command) (seed tasks : Option ℕ) → number_in 20 0 18446744073709551615 detail ≡ seed
-    → number_in 2 1 32 more ≡ tasks → lint_by seed tasks ≡ Some command → SpellsCommand (codes "lint" ∷ detail ∷ more ∷ []) command
-lint_spelled detail more command None tasks is_seed is_tasks h = absurd (cc h)
-lint_spelled detail more command (Some seed) None is_seed is_tasks h = absurd (cc h)
-lint_spelled detail more command (Some seed) (Some tasks) is_seed is_tasks h =
-    subst (λ (c : Command). SpellsCommand (codes "lint" ∷ detail ∷ more ∷ []) c) (some-is h)
-    (record {
-      seed_word = detail;
-      tasks_word = more;
-      words_are = refl;
-      seed_is = number_spelled 20 0 18446744073709551615 seed detail is_seed;
-      tasks_are = number_spelled 2 1 32 tasks more is_tasks;
-    })
+numbered_spelled : (word detail more : List ℕ) (command : Command) (seed tasks : Option ℕ) → number_in 20 0 18446744073709551615 detail ≡ seed
+    → number_in 2 1 32 more ≡ tasks → numbered_by word seed tasks ≡ Some command → SpellsCommand (word ∷ detail ∷ more ∷ []) command
+numbered_spelled word detail more command None tasks is_seed is_tasks h = absurd (cc h)
+numbered_spelled word detail more command (Some seed) None is_seed is_tasks h = absurd (cc h)
+numbered_spelled word detail more command (Some seed) (Some tasks) is_seed is_tasks h =
+    numbers_spelled word detail more command seed tasks (bytes_eq word (codes "gen")) (bytes_eq word (codes "drill")) (bytes_eq word (codes "lint"))
+    refl refl refl (number_spelled 20 0 18446744073709551615 seed detail is_seed) (number_spelled 2 1 32 tasks more is_tasks) h
+
+-- and back
+numbers_decided : (word detail more : List ℕ) (seed tasks : ℕ) → IsSeed detail seed → IsTaskCount more tasks
+    → command_with_numbers word detail more ≡ numbered word seed tasks
+numbers_decided word detail more seed tasks seed_is tasks_are =
+    ap (λ (o : Option ℕ). numbered_by word o (number_in 2 1 32 more)) (spelled_number 20 0 18446744073709551615 seed detail seed_is)
+    ∙ ap (λ (o : Option ℕ). numbered_by word (Some seed) o) (spelled_number 2 1 32 tasks more tasks_are)
 
 -- two words, by theirs
 two_words : (word detail : List ℕ) (command : Command) (run replay script probes : Bool)
@@ -196,32 +193,18 @@ two_words word detail command false false true false is_run is_replay is_script 
 two_words word detail command false false false probes is_run is_replay is_script is_probes h = absurd (cc h)
 
 -- three words, by theirs
-three_probes : (word detail more : List ℕ) (command : Command) (replay probes : Bool)
+three_words : (word detail more : List ℕ) (command : Command) (replay probes : Bool)
     → bytes_eq word (codes "replay") ≡ replay → bytes_eq more (codes "probes") ≡ probes
-    → cond (replay && probes) (replay_by (hart_count detail) true) None ≡ Some command
+    → cond (replay && probes) (replay_by (hart_count detail) true) (command_with_numbers word detail more) ≡ Some command
     → SpellsCommand (word ∷ detail ∷ more ∷ []) command
-three_probes word detail more command true true is_replay is_probes h =
+three_words word detail more command true true is_replay is_probes h =
     subst (λ w. SpellsCommand (w ∷ detail ∷ more ∷ []) command) (sym ((bytes_eq-Decides word (codes "replay")).0 is_replay))
     (subst (λ m. SpellsCommand (codes "replay" ∷ detail ∷ m ∷ []) command) (sym ((bytes_eq-Decides more (codes "probes")).0 is_probes))
     (replay_probes_spelled detail command (hart_count detail) refl h))
-three_probes word detail more command true false is_replay is_probes h = absurd (cc h)
-three_probes word detail more command false probes is_replay is_probes h = absurd (cc h)
-
-three_words : (word detail more : List ℕ) (command : Command) (gen drill lint : Bool) → bytes_eq word (codes "gen") ≡ gen → bytes_eq word (codes "drill") ≡ drill
-    → bytes_eq word (codes "lint") ≡ lint
-    → cond gen (gen_of detail more) (cond drill (drill_of detail more) (cond lint (lint_of detail more) (command_with_probes word detail more))) ≡ Some command
-    → SpellsCommand (word ∷ detail ∷ more ∷ []) command
-three_words word detail more command true drill lint is is_drill is_lint h =
-    subst (λ w. SpellsCommand (w ∷ detail ∷ more ∷ []) command) (sym ((bytes_eq-Decides word (codes "gen")).0 is))
-    (gen_spelled detail more command (number_in 20 0 18446744073709551615 detail) (number_in 2 1 32 more) refl refl h)
-three_words word detail more command false true lint is is_drill is_lint h =
-    subst (λ w. SpellsCommand (w ∷ detail ∷ more ∷ []) command) (sym ((bytes_eq-Decides word (codes "drill")).0 is_drill))
-    (drill_spelled detail more command (number_in 20 0 18446744073709551615 detail) (number_in 2 1 32 more) refl refl h)
-three_words word detail more command false false true is is_drill is_lint h =
-    subst (λ w. SpellsCommand (w ∷ detail ∷ more ∷ []) command) (sym ((bytes_eq-Decides word (codes "lint")).0 is_lint))
-    (lint_spelled detail more command (number_in 20 0 18446744073709551615 detail) (number_in 2 1 32 more) refl refl h)
-three_words word detail more command false false false is is_drill is_lint h =
-    three_probes word detail more command (bytes_eq word (codes "replay")) (bytes_eq more (codes "probes")) refl refl h
+three_words word detail more command true false is_replay is_probes h =
+    numbered_spelled word detail more command (number_in 20 0 18446744073709551615 detail) (number_in 2 1 32 more) refl refl h
+three_words word detail more command false probes is_replay is_probes h =
+    numbered_spelled word detail more command (number_in 20 0 18446744073709551615 detail) (number_in 2 1 32 more) refl refl h
 
 pub decided_spelled : (words : List (List ℕ)) (command : Command) → command_of words ≡ Some command → SpellsCommand words command
 decided_spelled [] command h = absurd cc
@@ -232,7 +215,7 @@ decided_spelled (word ∷ detail ∷ []) command h =
     two_words word detail command (bytes_eq word (codes "run")) (bytes_eq word (codes "replay")) (bytes_eq word (codes "script"))
     (bytes_eq detail (codes "probes")) refl refl refl refl h
 decided_spelled (word ∷ detail ∷ more ∷ []) command h =
-    three_words word detail more command (bytes_eq word (codes "gen")) (bytes_eq word (codes "drill")) (bytes_eq word (codes "lint")) refl refl refl h
+    three_words word detail more command (bytes_eq word (codes "replay")) (bytes_eq more (codes "probes")) refl refl h
 decided_spelled (word ∷ detail ∷ more ∷ next ∷ others) command h = absurd cc
 
 pub spelled_decided : (words : List (List ℕ)) (command : Command) → SpellsCommand words command → command_of words ≡ Some command
@@ -246,18 +229,12 @@ spelled_decided words (Replay harts true) h = ap command_of h.1 ∙ ap (λ count
 spelled_decided words Explain h = ap command_of h
 spelled_decided words Certify h = ap command_of h
 spelled_decided words (Drill seed tasks) h =
-    ap command_of h.words_are
-    ∙ ap (λ (o : Option ℕ). drill_by o (number_in 2 1 32 h.tasks_word)) (spelled_number 20 0 18446744073709551615 seed h.seed_word h.seed_is)
-    ∙ ap (λ (o : Option ℕ). drill_by (Some seed) o) (spelled_number 2 1 32 tasks h.tasks_word h.tasks_are)
+    ap command_of h.words_are ∙ numbers_decided (codes "drill") h.seed_word h.tasks_word seed tasks h.seed_is h.tasks_are
 spelled_decided words Lint h = ap command_of h
 spelled_decided words (LintDrill seed tasks) h =
-    ap command_of h.words_are
-    ∙ ap (λ (o : Option ℕ). lint_by o (number_in 2 1 32 h.tasks_word)) (spelled_number 20 0 18446744073709551615 seed h.seed_word h.seed_is)
-    ∙ ap (λ (o : Option ℕ). lint_by (Some seed) o) (spelled_number 2 1 32 tasks h.tasks_word h.tasks_are)
+    ap command_of h.words_are ∙ numbers_decided (codes "lint") h.seed_word h.tasks_word seed tasks h.seed_is h.tasks_are
 spelled_decided words (Gen seed tasks) h =
-    ap command_of h.words_are
-    ∙ ap (λ (o : Option ℕ). gen_by o (number_in 2 1 32 h.tasks_word)) (spelled_number 20 0 18446744073709551615 seed h.seed_word h.seed_is)
-    ∙ ap (λ (o : Option ℕ). gen_by (Some seed) o) (spelled_number 2 1 32 tasks h.tasks_word h.tasks_are)
+    ap command_of h.words_are ∙ numbers_decided (codes "gen") h.seed_word h.tasks_word seed tasks h.seed_is h.tasks_are
 
 -- A command that words spell asks for 1 to 8 harts.
 pub spelled_harts : (words : List (List ℕ)) (command : Command) → SpellsCommand words command → IsHartCount (harts_of command)

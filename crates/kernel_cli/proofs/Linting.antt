@@ -1,30 +1,23 @@
 -- What the input of `lint` is read as, and the answer over it.
-use Rattle.std.proofs.Common.{◌≡◌, ◌≢◌, ◌∙◌, ℕ, ◌≤◌, List, [], ◌++◌, length, Some, Result, Ok, Err, refl, sym, ap, subst}
+use Rattle.std.proofs.Common.{◌≡◌, ◌∙◌, ℕ, ◌≤◌, List, [], ◌++◌, length, Result, Ok, Err, refl, sym, ap, subst}
 use Rattle.std.proofs.lemmas.Bool.{le-ltb}
 use Rattle.core_model.specs.KernelWords.{linked_code}
 use Rattle.core_model.specs.declared.loaded.Loaded.{Loaded}
-use Rattle.bundle_text.specs.declared.bundle.Code.TheVariants.{Text}
 use Rattle.masked_gen.specs.Generator.{generated}
-use Rattle.rv_asm.specs.declared.fault.AsmFault.{AsmFault}
-use Rattle.rv_loader.specs.Coding.{words_of}
-use Rattle.rv_loader.specs.Memory.{IsRefusalOf}
 use Rattle.rv_loader.specs.Loading.{loading_of}
-use Rattle.rv_loader.specs.declared.fault.LoadFault.{LoadFault}
-use Rattle.rv_loader.specs.declared.fault.LoadFault.TheVariants.{Asm, Limit, PlanForMissingHart, TooLong, Memory}
+use Rattle.rv_loader.specs.declared.fault.LoadFault.TheVariants.{Memory}
 use Rattle.scrub_rules.specs.Parts.{Parts}
-use Rattle.scrub_rules.specs.Broken.{AreAcceptedParts, IsFirstBroken}
+use Rattle.scrub_rules.specs.Broken.{AreAcceptedParts}
 use Rattle.scrub_rules.specs.declared.rule.Rule.TheVariants as rules
 use Rattle.scrub_rules.specs.declared.rule.RuleFault.{RuleFault}
 use Rattle.kernel_cli.specs.declared.command.Command.TheVariants.{Lint, LintDrill}
 use Rattle.kernel_cli.specs.declared.answer.Response.{Response}
-use Rattle.kernel_cli.specs.declared.answer.Outcome.TheVariants.{BadInput}
 use Rattle.kernel_cli.specs.Answer.{Answer, input_limit, done, words_answer, routine_answer, routine_accepted, drilled_answer, code_answer}
 use Rattle.kernel_cli.specs.Drills.{IsDrillOrder, drill_report}
 use Rattle.kernel_cli.specs.Findings.{Linted}
-use Rattle.kernel_cli.specs.Lints.{words_in, words_of_lines, words_or_refusal}
-use Rattle.kernel_cli.specs.Outcome.{status_of, IsAnswer}
-use Rattle.kernel_cli.specs.Refusals.{asm_refusal, load_refusal}
-use Rattle.kernel_cli.specs.Routines.{AreWordsOf, IsRuleRefusal, IsRoutineOf, IsNoRoutine, IsAnswerOver}
+use Rattle.kernel_cli.specs.Lints.{words_in}
+use Rattle.kernel_cli.specs.Outcome.{IsAnswer}
+use Rattle.kernel_cli.specs.Routines.{AreWordsOf, IsRoutineOf, IsNoRoutine, IsAnswerOver}
 
 -- ---- no routine
 

@@ -95,45 +95,28 @@ within low high (Some number) = if nat_le low number && nat_le number high then 
 abbrev pub number_in : ℕ → ℕ → ℕ → List ℕ → Option ℕ
 number_in most low high word = if nat_lt most (length word) then None else within low high (decimal_of word)
 
--- the bundle of a seed, with so many tasks
-abbrev pub gen_by : Option ℕ → Option ℕ → Option Command
-gen_by None tasks = None
-gen_by (Some seed) None = None
-gen_by (Some seed) (Some tasks) = Some (Gen seed tasks)
+-- a command about the bundle of a number: the bundle, its run, and its run with a routine of one's own
+abbrev pub numbered : List ℕ → ℕ → ℕ → Option Command
+numbered word seed tasks =
+    if bytes_eq word (codes "gen") then Some (Gen seed tasks)
+    else if bytes_eq word (codes "drill") then Some (Drill seed tasks)
+    else if bytes_eq word (codes "lint") then Some (LintDrill seed tasks)
+    else None
 
-abbrev pub gen_of : List ℕ → List ℕ → Option Command
-gen_of seed tasks = gen_by (number_in 20 0 18446744073709551615 seed) (number_in 2 1 32 tasks)
+-- where both are numbers
+abbrev pub numbered_by : List ℕ → Option ℕ → Option ℕ → Option Command
+numbered_by word None tasks = None
+numbered_by word (Some seed) None = None
+numbered_by word (Some seed) (Some tasks) = numbered word seed tasks
 
--- and its run
-abbrev pub drill_by : Option ℕ → Option ℕ → Option Command
-drill_by None tasks = None
-drill_by (Some seed) None = None
-drill_by (Some seed) (Some tasks) = Some (Drill seed tasks)
-
-abbrev pub drill_of : List ℕ → List ℕ → Option Command
-drill_of seed tasks = drill_by (number_in 20 0 18446744073709551615 seed) (number_in 2 1 32 tasks)
-
--- and its run with a routine of one's own
-abbrev pub lint_by : Option ℕ → Option ℕ → Option Command
-lint_by None tasks = None
-lint_by (Some seed) None = None
-lint_by (Some seed) (Some tasks) = Some (LintDrill seed tasks)
-
-abbrev pub lint_of : List ℕ → List ℕ → Option Command
-lint_of seed tasks = lint_by (number_in 20 0 18446744073709551615 seed) (number_in 2 1 32 tasks)
-
--- the command of three words of which the last is `probes`
-abbrev pub command_with_probes : List ℕ → List ℕ → List ℕ → Option Command
-command_with_probes word detail more =
-    if bytes_eq word (codes "replay") && bytes_eq more (codes "probes") then replay_by (hart_count detail) true else None
+abbrev pub command_with_numbers : List ℕ → List ℕ → List ℕ → Option Command
+command_with_numbers word seed tasks = numbered_by word (number_in 20 0 18446744073709551615 seed) (number_in 2 1 32 tasks)
 
 -- the command of three words
 abbrev pub command_of_three : List ℕ → List ℕ → List ℕ → Option Command
 command_of_three word detail more =
-    if bytes_eq word (codes "gen") then gen_of detail more
-    else if bytes_eq word (codes "drill") then drill_of detail more
-    else if bytes_eq word (codes "lint") then lint_of detail more
-    else command_with_probes word detail more
+    if bytes_eq word (codes "replay") && bytes_eq more (codes "probes") then replay_by (hart_count detail) true
+    else command_with_numbers word detail more
 
 -- the command of the words, if they spell one
 abbrev pub command_of : List (List ℕ) → Option Command

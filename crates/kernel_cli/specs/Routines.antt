@@ -1,5 +1,5 @@
 -- What the input of `lint` is read as, and its answer, as the code has them.
-use Rattle.std.specs.Prelude.{◌≡◌, ℕ, ◌≤◌, List, length, Option, Some, Result, Ok, Err}
+use Rattle.std.specs.Prelude.{◌≡◌, ℕ, ◌≤◌, List, length, Some, Result, Ok, Err}
 use Rattle.isa_model.specs.Limits.{max_code_words}
 use Rattle.scrub_rules.specs.Parts.{Parts}
 use Rattle.scrub_rules.specs.Broken.{AreAcceptedParts, IsFirstBroken}

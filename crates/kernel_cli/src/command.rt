@@ -1,7 +1,7 @@
 //! The words of the command line.
 
 ghost use Rattle.std.specs.Prelude.{◌≡◌, map, string_bytes};
-ghost use Rattle.kernel_cli.specs.Commands.{command_named, hart_count, run_by, replay_by, command_detailed, number_in, gen_of, drill_of, lint_of, command_with_probes, command_of_three, command_of};
+ghost use Rattle.kernel_cli.specs.Commands.{command_named, hart_count, run_by, replay_by, command_detailed, number_in, numbered, command_with_numbers, command_of_three, command_of};
 
 /// What the program does.
 #[derive(Clone, Copy, Debug, PartialEq, Eq)]
@@ -153,65 +153,35 @@ fn number_in(most: usize, low: u64, high: u64, word: &str) -> Option<u64>
     }
 }
 
-/// The bundle of a number, if the words are a seed and a number of tasks.
-fn generated(seed: &str, tasks: &str) -> Option<Command>
-    ensures command { result ≡ gen_of seed.now tasks.now }
+/// The command of a word about the bundle of a number, with its seed and its number of tasks.
+fn numbered(word: &str, seed: u64, tasks: u32) -> Option<Command>
+    ensures command { result ≡ numbered word.now seed tasks }
 {
-    let seed = number_in(SEED_DIGITS, 0, u64::MAX, seed)?;
-    let tasks = number_in(TASK_DIGITS, 1, MAX_TASKS, tasks)?;
-    Some(Command::Gen {
-        seed,
-        tasks: tasks as u32,
-    })
-}
-
-/// The run of the bundle of a number, if the words are a seed and a number of tasks.
-fn drill(seed: &str, tasks: &str) -> Option<Command>
-    ensures command { result ≡ drill_of seed.now tasks.now }
-{
-    let seed = number_in(SEED_DIGITS, 0, u64::MAX, seed)?;
-    let tasks = number_in(TASK_DIGITS, 1, MAX_TASKS, tasks)?;
-    Some(Command::Drill {
-        seed,
-        tasks: tasks as u32,
-    })
-}
-
-/// The check of a routine and the run of the bundle of a number with it, if the words are a seed and a number of tasks.
-fn lint(seed: &str, tasks: &str) -> Option<Command>
-    ensures command { result ≡ lint_of seed.now tasks.now }
-{
-    let seed = number_in(SEED_DIGITS, 0, u64::MAX, seed)?;
-    let tasks = number_in(TASK_DIGITS, 1, MAX_TASKS, tasks)?;
-    Some(Command::LintDrill {
-        seed,
-        tasks: tasks as u32,
-    })
-}
-
-/// The command of three words of which the last is `probes`.
-fn command_with_probes(word: &str, detail: &str, more: &str) -> Option<Command>
-    ensures command { result ≡ command_with_probes word.now detail.now more.now }
-{
-    if word == "replay" && more == "probes" {
-        replay(detail, true)
-    } else {
-        None
+    match word {
+        "gen" => Some(Command::Gen { seed, tasks }),
+        "drill" => Some(Command::Drill { seed, tasks }),
+        "lint" => Some(Command::LintDrill { seed, tasks }),
+        _ => None,
     }
+}
+
+/// The command of a word, a seed and a number of tasks.
+fn command_with_numbers(word: &str, seed: &str, tasks: &str) -> Option<Command>
+    ensures command { result ≡ command_with_numbers word.now seed.now tasks.now }
+{
+    let seed = number_in(SEED_DIGITS, 0, u64::MAX, seed)?;
+    let tasks = number_in(TASK_DIGITS, 1, MAX_TASKS, tasks)?;
+    numbered(word, seed, tasks as u32)
 }
 
 /// The command of three words.
 fn command_of_three(word: &str, detail: &str, more: &str) -> Option<Command>
     ensures command { result ≡ command_of_three word.now detail.now more.now }
 {
-    if word == "gen" {
-        generated(detail, more)
-    } else if word == "drill" {
-        drill(detail, more)
-    } else if word == "lint" {
-        lint(detail, more)
+    if word == "replay" && more == "probes" {
+        replay(detail, true)
     } else {
-        command_with_probes(word, detail, more)
+        command_with_numbers(word, detail, more)
     }
 }
 

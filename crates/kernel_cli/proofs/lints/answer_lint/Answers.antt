@@ -1,5 +1,5 @@
 -- A routine that is accepted, and none.
-use Rattle.std.proofs.Common.{List, ℕ, Result, Ok, Err, subst}
+use Rattle.std.proofs.Common.{List, ℕ, Result, subst}
 use Rattle.scrub_rules.specs.Parts.{Parts}
 use Rattle.kernel_cli.specs.declared.answer.Response.{Response}
 use Rattle.kernel_cli.specs.Answer.{done}

@@ -1,5 +1,5 @@
 -- An input without words is no routine.
-use Rattle.std.proofs.Common.{List, ℕ, Result, Err, subst}
+use Rattle.std.proofs.Common.{List, ℕ, Result, subst}
 use Rattle.kernel_cli.specs.declared.answer.Response.{Response}
 use Rattle.kernel_cli.specs.Lints.{words_in}
 use Rattle.kernel_cli.specs.Routines.{AreWordsOf}

@@ -1,5 +1,5 @@
 -- The end of a command whose input is refused, or that has no memory for it.
-use Rattle.std.proofs.Common.{◌≡◌, ℕ, List, Some, Result, Err, sym, subst}
+use Rattle.std.proofs.Common.{ℕ, List, Some, Result, Err, sym, subst}
 use Rattle.kernel_cli.specs.Commands.{harts_of}
 use Rattle.core_model.specs.declared.loaded.Loaded.{Loaded}
 use Rattle.kernel_cli.specs.declared.answer.Response.{Response}
