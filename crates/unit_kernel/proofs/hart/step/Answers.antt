@@ -2,8 +2,8 @@
 use Rattle.std.proofs.Common.{ap, ◌∙◌}
 use Rattle.hart_model.specs.declared.calls.Did.TheVariants.{Wants}
 use Rattle.hart_model.specs.declared.calls.QueueCall.TheVariants.{Take}
-use Rattle.end_to_end_core.proofs.AsksStill.{asks_still}
-use Rattle.end_to_end_core.proofs.hart.step.Goals as goal
+use Rattle.unit_kernel.proofs.AsksStill.{asks_still}
+use Rattle.unit_kernel.proofs.hart.step.Goals as goal
 
 pub answer_take-requires-clause-asks : goal.answer_take-requires-clause-asks
 answer_take-requires-clause-asks g c =
