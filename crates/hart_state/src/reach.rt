@@ -207,7 +207,8 @@ impl Hart {
         }
     }
 
-    /// The cells of the operands of an instruction.
+    /// The cells of the operands of an instruction. It is inlined, so that they are put where they are used.
+    #[inline(always)]
     pub(crate) fn operand_cells(
         &self,
         instr: &Instr,
