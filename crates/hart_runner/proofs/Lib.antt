@@ -12,3 +12,4 @@ pub mod Lookups
 pub mod Pushed
 pub mod Sums
 pub mod Left
+pub mod Over

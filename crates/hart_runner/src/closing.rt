@@ -1,25 +1,28 @@
 //! The end of a run: what the workers left, put together.
 
-ghost use Rattle.std.specs.Prelude.{◌≡◌, ◌≤◌, ◌^◌, ◌↔◌, List, length, All, vec_len, IsTrue, IsSome, Some, IfOk};
+ghost use Rattle.std.specs.Prelude.{◌≡◌, ◌≤◌, ◌^◌, ◌↔◌, ℕ, List, length, All, vec_len, IsTrue, IsSome, Some, Err, IfOk};
 ghost use Rattle.hart_model.specs.declared.probe.Probe.{Probe as LogEntry};
 ghost use Rattle.core_model.specs.Loaded.{IsLoaded};
 ghost use Rattle.kernel_core.specs.declared.snapshot.TaskState.{TaskState as StateOfTask};
 ghost use Rattle.probe_log.specs.Counts.{StandFor, total_of};
 ghost use Rattle.turn_lock.specs.Passes.{lock_frame, lock_seats};
-ghost use Rattle.hart_runner.specs.Finishing.{IsFinished};
+ghost use Rattle.hart_runner.specs.Finishing.{IsFinished, IsRetired, IsUnfinished};
 ghost use Rattle.hart_runner.specs.Places.{AreServedPlaces};
 ghost use Rattle.hart_runner.specs.Remains.{AreRemainsOf, AreTalliesOf, entries_of_harts};
 ghost use Rattle.hart_runner.specs.Rooms.{HasRoomFor};
+ghost use Rattle.hart_runner.specs.declared.unfinished.Unfinished.TheVariants.{Retired};
 
 use crate::board::CoreBoard;
 use crate::finished::Finished;
 use crate::opening::Rooms;
 use crate::place::{Ended, Place};
+use crate::receipt::{Cause, Receipt};
 use crate::remains::Remains;
+use crate::unfinished::Unfinished;
 use core_model::{Items, Loaded};
 use kernel_core::{TaskState, snapshot_of_parts};
 use probe_log::Tally;
-use std::alloc::{AllocError, Global};
+use std::alloc::Global;
 use turn_lock::Turns;
 
 /// Ends the lock, whose workers have all ended, and puts together what they left. Takes no memory.
@@ -94,19 +97,36 @@ fn have_all_ended(tasks: &[TaskState]) -> bool
     tasks.iter().all(|task| task.end.is_some())
 }
 
-/// The finished run of a bundle whose workers left this. `AllocError` is want of memory: for the snapshot, or before that for the workers, where
-/// a task hasn't ended.
-pub(crate) fn finish(alloc: Global, loaded: &Loaded, left: Remains) -> Result<Finished, AllocError>
+/// The first hart whose worker had no memory for a take.
+fn first_retired(receipts: &[Receipt]) -> u32
+    requires few { length receipts.now ≤ 8 }
+    requires some { (hart : ℕ) × IsRetired receipts.now hart }
+    ensures retired { IsRetired receipts.now result }
+{
+    for hart in 0..receipts.len() {
+        match receipts[hart].cause {
+            Cause::Memory => return hart as u32,
+            Cause::Empty => {}
+        }
+    }
+    unreachable!()
+}
+
+/// The finished run of a bundle whose workers left this. Without memory for the snapshot there is none; nor is there where a task hasn't ended,
+/// and then some worker had no memory for a take.
+pub(crate) fn finish(alloc: Global, loaded: &Loaded, left: Remains) -> Result<Finished, Unfinished>
     requires loaded { IsLoaded loaded.now }
     requires remains { AreRemainsOf loaded.now left }
     ensures finished { IfOk result (IsFinished loaded.now) }
+    ensures retired { (hart : ℕ) → result ≡ Err (Retired hart) → IsUnfinished loaded.now hart }
 {
     let tally = sum_of(left.tallies.as_slice());
     let harts = left.harts.as_slice();
     let tasks = loaded.tasks.len() as u32;
     let snapshot = snapshot_of_parts(alloc, &left.board, harts, tasks, tally)?;
     if !have_all_ended(snapshot.tasks.as_slice()) {
-        return Err(AllocError);
+        let hart = first_retired(left.receipts.as_slice());
+        return Err(Unfinished::Retired { hart });
     }
     Ok(Finished {
         snapshot,

@@ -12,10 +12,12 @@ mod receipt;
 mod remains;
 mod threads;
 mod turning;
+mod unfinished;
 mod work;
 
 pub use board::CoreBoard;
 pub use finished::Finished;
 pub use receipt::{Cause, Receipt};
 pub use threads::run_threads;
+pub use unfinished::Unfinished;
 pub use work::worker;

@@ -1,21 +1,23 @@
 //! All workers on threads.
 
-ghost use Rattle.std.specs.Prelude.{◌≡◌, IfOk};
+ghost use Rattle.std.specs.Prelude.{◌≡◌, ℕ, Err, IfOk};
 ghost use Rattle.core_model.specs.KernelWords as definition;
 ghost use Rattle.core_model.specs.Loaded.{IsLoaded};
-ghost use Rattle.hart_runner.specs.Finishing.{IsFinished};
+ghost use Rattle.hart_runner.specs.Finishing.{IsFinished, IsUnfinished};
 ghost use Rattle.hart_runner.specs.Places.{IsReadyPlace, IsServedPlace, IsOfBundle};
+ghost use Rattle.hart_runner.specs.declared.unfinished.Unfinished.TheVariants.{Retired};
 
 use crate::board::CoreBoard;
 use crate::closing::{close, finish};
 use crate::finished::Finished;
 use crate::opening::{empty_rooms, places};
 use crate::place::{Ended, Place, Start};
+use crate::unfinished::Unfinished;
 use crate::work::worker;
 use core_model::Loaded;
 use io_edge::Gate;
 use kernel_core::board_at_boot;
-use std::alloc::{AllocError, Global};
+use std::alloc::Global;
 use std::snapshot::Snapshot;
 use std::sync::Wait;
 use std::thread;
@@ -33,16 +35,18 @@ const MOST_HARTS: usize = 8;
 ///
 /// # Errors
 ///
-/// `AllocError` is want of memory. A worker that has none ends with nothing in its hands, and the others go on; where none goes on and a task
-/// hasn't ended, that is the answer. Between the first turn and the last the board's order alone takes memory.
+/// Both are want of memory. A worker that has none ends with nothing in its hands, and the others go on; where none goes on and a task hasn't
+/// ended, `Retired` names the first such worker. Without one all tasks have ended. Between the first turn and the last the board's order alone
+/// takes memory; `Memory` is want of it before or after that.
 pub fn run_threads<R: Threads + Wait + Sync, G: Gate>(
     rt: &R,
     alloc: Global,
     gate: &G,
     loaded: &Loaded,
-) -> Result<Finished, AllocError>
+) -> Result<Finished, Unfinished>
     requires loaded { IsLoaded loaded.now }
     ensures finished { IfOk result (IsFinished loaded.now) }
+    ensures retired { (hart : ℕ) → result ≡ Err (Retired hart) → IsUnfinished loaded.now hart }
 {
     let kernel = kernel_code(alloc)?;
     let board = CoreBoard(board_at_boot(alloc, loaded)?);

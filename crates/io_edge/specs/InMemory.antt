@@ -1,10 +1,12 @@
 -- A source and a sink over memory, as contracts see them, and what one call does to each.
-use Rattle.std.specs.Prelude.{ℕ, ◌+◌, ◌-◌, ◌^◌, ◌<◌, ◌≡◌, List, ◌++◌, length, drop, min}
+use Rattle.std.specs.Prelude.{ℕ, ◌+◌, ◌-◌, ◌^◌, ◌<◌, ◌≡◌, Bool, false, ◌&&◌, eqb, ltb, List, ◌++◌, length, take, drop, min}
 
--- A source over memory: the bytes that it has left, how many it gives a call at most, the numbers
--- of the calls that fail, and how many calls and faults there were.
+-- A source over memory: the bytes that it has left, those that it has given, whether its last read met the end, how many it gives a
+-- call at most, the numbers of the calls that fail, and how many calls and faults there were.
 pub record GivenBytes : Type 0 where
   pub left : List ℕ
+  pub given : List ℕ
+  pub ended : Bool
   pub per_call : ℕ
   pub failing : List ℕ
   pub calls : ℕ
@@ -28,16 +30,19 @@ next_count count = min (count + 1) (2 ^ 64 - 1)
 abbrev pub given_count : GivenBytes → ℕ → ℕ
 given_count source buffer_len = min (min (length source.left) source.per_call) buffer_len
 
--- The source after a read that gave this many bytes.
-abbrev pub source_after_read : GivenBytes → ℕ → GivenBytes
-source_after_read source count = record source {
+-- The source after a read that gave this many bytes into a buffer of this length.
+abbrev pub source_after_read : GivenBytes → ℕ → ℕ → GivenBytes
+source_after_read source count buffer_len = record source {
   left = drop count source.left;
+  given = source.given ++ take count source.left;
+  ended = eqb count 0 && ltb 0 buffer_len;
   calls = next_count source.calls;
 }
 
 -- The source after a read that failed.
 abbrev pub source_after_fault : GivenBytes → GivenBytes
 source_after_fault source = record source {
+  ended = false;
   calls = next_count source.calls;
   faults = next_count source.faults;
 }

@@ -1,4 +1,5 @@
 pub mod Causes
+pub mod Gone
 pub mod InMemory
 pub mod OverStd
 pub mod Whole

@@ -1,12 +1,14 @@
 //! A source and a sink over memory. Each can be told how little it moves in a call and at which
 //! calls it fails, so that a test can play any outside.
 
-ghost use Rattle.std.specs.Prelude.{◌≡◌, ◌<◌, ◌≤◌, ◌↔◌, ◌⊎◌, [], ◌++◌, length, take, drop, IfOk, OnErr, IsErr, Contains, Some};
+ghost use Rattle.std.specs.Prelude.{◌≡◌, ◌<◌, ◌≤◌, ◌↔◌, ◌⊎◌, false, [], ◌++◌, length, take, drop, IfOk, OnErr, IsErr, Contains, Some};
 ghost use Rattle.std.specs.Io.{ReadsAtMost, WritesAtMost};
 ghost use Rattle.std.specs.Io.KnownBytes.{ReadConsumes, WriteAppends};
 ghost use Rattle.io_edge.specs.Causes.{HasCause};
+ghost use Rattle.io_edge.specs.Gone.{moved, is_end};
 ghost use Rattle.io_edge.specs.InMemory.{GivenBytes, TakenBytes, IsFullFor, given_count, taken_count, source_after_read, source_after_fault, sink_after_write, sink_after_fault};
 
+use crate::past::is_end;
 use crate::traits::{Failed, Sink, Source};
 use std::alloc::{AllocError, Global};
 use std::marker::Model;
@@ -19,6 +21,7 @@ use std::marker::Model;
 pub struct MemSource {
     bytes: Vec<u8>,
     at: usize,
+    ended: bool,
     per_call: usize,
     failing: Vec<u64>,
     calls: u64,
@@ -26,13 +29,15 @@ pub struct MemSource {
 }
 
 impl Model for MemSource {
-    ghost use Rattle.std.specs.Prelude.{◌<◌, ◌≤◌, vec_len, drop};
+    ghost use Rattle.std.specs.Prelude.{◌<◌, ◌≤◌, vec_len, take, drop};
     ghost use Rattle.io_edge.specs.InMemory.{GivenBytes};
 
     ghost Value = { GivenBytes };
 
     ghost view = { λ s. record {
       left = drop s.at s.bytes.items;
+      given = take s.at s.bytes.items;
+      ended = s.ended;
       per_call = s.per_call;
       failing = s.failing.items;
       calls = s.calls;
@@ -49,6 +54,8 @@ impl MemSource {
         requires some { 0 < per_call }
         ensures value { result ≡ record {
           left = bytes.items;
+          given = [];
+          ended = false;
           per_call = per_call;
           failing = failing.items;
           calls = 0;
@@ -58,6 +65,7 @@ impl MemSource {
         MemSource {
             bytes,
             at: 0,
+            ended: false,
             per_call,
             failing,
             calls: 0,
@@ -69,6 +77,10 @@ impl MemSource {
 impl Source for MemSource {
     ghost left = { λ s. Some s.left };
 
+    ghost given = { λ s. s.given };
+
+    ghost ended = { λ s. s.ended };
+
     ghost faults = { λ s. s.faults };
 
     /// Fails exactly where the number of this call is listed, and leaves the buffer as it was. Else it
@@ -76,6 +88,8 @@ impl Source for MemSource {
     fn read(&mut self, buf: &mut [u8]) -> Result<usize, Failed>
         ensures bound { ReadsAtMost result buf.new }
         ensures bytes { ReadConsumes (Some self.old.left) (Some self.new.left) result buf.new }
+        ensures past { self.new.given ≡ self.old.given ++ moved result buf.new }
+        ensures ended { self.new.ended ≡ is_end result (length buf.new) }
         ensures cause { HasCause self.old.faults self.new.faults result }
 
         ensures fails { IsErr result ↔ Contains self.old.failing self.old.calls }
@@ -84,16 +98,18 @@ impl Source for MemSource {
 
         ensures count { IfOk result (λ n. n ≡ given_count self.old (length buf.old)) }
         ensures given { IfOk result (λ n. buf.new ≡ take n self.old.left ++ drop n buf.old) }
-        ensures after { IfOk result (λ n. self.new ≡ source_after_read self.old n) }
+        ensures after { IfOk result (λ n. self.new ≡ source_after_read self.old n (length buf.old)) }
     {
         let call = self.calls;
         self.calls = call.saturating_add(1);
+        self.ended = false;
         if self.failing.contains(&call) {
             self.faults = self.faults.saturating_add(1);
             return Err(Failed);
         }
         let left = self.bytes.len() - self.at;
         let count = left.min(self.per_call).min(buf.len());
+        self.ended = is_end(count, buf.len());
         let end = self.at + count;
         buf[..count].copy_from_slice(&self.bytes[self.at..end]);
         self.at = end;
@@ -178,6 +194,8 @@ impl MemSink {
 impl Sink for MemSink {
     ghost held = { λ s. Some s.held };
 
+    ghost taken = { λ s. s.held };
+
     ghost faults = { λ s. s.faults };
 
     /// Fails exactly where the number of this call is listed, and where a piece that isn't empty finds
@@ -187,6 +205,7 @@ impl Sink for MemSink {
         ensures bound { WritesAtMost result piece.now }
         ensures some { IfOk result (λ n. 0 < length piece.now → 0 < n) }
         ensures bytes { WriteAppends (Some self.old.held) (Some self.new.held) result piece.now }
+        ensures taken { self.new.held ≡ self.old.held ++ moved result piece.now }
         ensures cause { HasCause self.old.faults self.new.faults result }
 
         ensures fails { IsErr result ↔

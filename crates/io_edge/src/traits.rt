@@ -1,9 +1,10 @@
 //! What a source, a sink and a gate are.
 
-ghost use Rattle.std.specs.Prelude.{ℕ, ◌<◌, List, length, Option, IfOk};
+ghost use Rattle.std.specs.Prelude.{◌≡◌, ℕ, ◌<◌, Bool, List, ◌++◌, length, Option, IfOk};
 ghost use Rattle.std.specs.Io.{ReadsAtMost, WritesAtMost};
 ghost use Rattle.std.specs.Io.KnownBytes.{ReadConsumes, WriteAppends};
 ghost use Rattle.io_edge.specs.Causes.{HasCause};
+ghost use Rattle.io_edge.specs.Gone.{moved, is_end};
 
 /// A read or a write failed.
 #[derive(Clone, Copy, Debug, PartialEq, Eq)]
@@ -14,6 +15,12 @@ pub trait Source {
     /// The bytes that are left, where the source tells them.
     ghost left: { Self → Option (List ℕ) };
 
+    /// The bytes that it has given so far.
+    ghost given: { Self → List ℕ };
+
+    /// Whether its last read met the end.
+    ghost ended: { Self → Bool };
+
     /// How many faults it has counted.
     ghost faults: { Self → ℕ };
 
@@ -23,6 +30,8 @@ pub trait Source {
     fn read(&mut self, buf: &mut [u8]) -> Result<usize, Failed>
         ensures bound { ReadsAtMost result buf.new }
         ensures bytes { ReadConsumes (left self.old) (left self.new) result buf.new }
+        ensures given { given self.new ≡ given self.old ++ moved result buf.new }
+        ensures ended { ended self.new ≡ is_end result (length buf.new) }
         ensures cause { HasCause (faults self.old) (faults self.new) result };
 }
 
@@ -30,6 +39,9 @@ pub trait Source {
 pub trait Sink {
     /// The bytes that it holds, where the sink tells them.
     ghost held: { Self → Option (List ℕ) };
+
+    /// The bytes that it has taken so far.
+    ghost taken: { Self → List ℕ };
 
     /// How many faults it has counted.
     ghost faults: { Self → ℕ };
@@ -40,6 +52,7 @@ pub trait Sink {
         ensures bound { WritesAtMost result piece.now }
         ensures some { IfOk result (λ n. 0 < length piece.now → 0 < n) }
         ensures bytes { WriteAppends (held self.old) (held self.new) result piece.now }
+        ensures taken { taken self.new ≡ taken self.old ++ moved result piece.now }
         ensures cause { HasCause (faults self.old) (faults self.new) result };
 }
 

@@ -1,8 +1,9 @@
 //! Reading to the end, and writing all.
 
-ghost use Rattle.std.specs.Prelude.{◌≡◌, ◌+◌, ◌<◌, ◌≤◌, length, drop, take, vec_len, Some, IfOk, IfErr, IfSome, OnOk, OnErr, IsErrOf};
+ghost use Rattle.std.specs.Prelude.{◌≡◌, ℕ, ◌+◌, ◌<◌, ◌≤◌, List, length, drop, take, vec_len, Some, is_ok, IfOk, IfErr, IfSome, OnOk, OnErr, IsErrOf};
 ghost use Rattle.std.specs.Io.KnownBytes.{IsAtEnd, Appends};
 ghost use Rattle.io_edge.specs.Causes.{Rose, ConsumesAtMost};
+ghost use Rattle.io_edge.specs.Gone.{Gave, Took, source_tells, sink_tells};
 ghost use Rattle.io_edge.specs.Whole.{IfWriteFault};
 ghost use Rattle.io_edge.specs.declared.whole.ReadEnd.TheVariants.{Memory};
 
@@ -53,6 +54,13 @@ pub fn read_all<S: Source>(alloc: Global, src: &mut S, limit: usize) -> Result<V
     ensures read_fault { IsErrOf result ReadEnd.ReadFault →
         Rose (S.faults src.old) (S.faults src.new) }
 
+    ensures gave { IfOk result (λ v. Gave (source_tells S.left S.given S.ended src.old) (source_tells S.left S.given S.ended src.new) v.items) }
+    ensures ended { S.ended src.new ≡ is_ok result }
+    ensures gave_past { IsErrOf result ReadEnd.TooLarge → (bytes : List ℕ) × (length bytes ≡ limit + 1)
+        × Gave (source_tells S.left S.given S.ended src.old) (source_tells S.left S.given S.ended src.new) bytes }
+    ensures gave_most { (bytes : List ℕ) × (length bytes ≤ limit + 1)
+        × Gave (source_tells S.left S.given S.ended src.old) (source_tells S.left S.given S.ended src.new) bytes }
+
     ensures taken { ConsumesAtMost (S.left src.old) (S.left src.new) (limit + 1) }
     ensures later { S.faults src.old ≤ S.faults src.new }
 {
@@ -82,6 +90,9 @@ pub fn write_all<K: Sink>(sink: &mut K, bytes: &[u8]) -> Result<(), WriteEnd>
     ensures all { OnOk result (Appends (K.held sink.old) (K.held sink.new) bytes.now) }
     ensures gone { IfErr result (λ e. IfWriteFault e (λ gone. (gone < length bytes.now)
         × Appends (K.held sink.old) (K.held sink.new) (take gone bytes.now))) }
+    ensures took { OnOk result (Took (sink_tells K.held K.taken sink.old) (sink_tells K.held K.taken sink.new) bytes.now) }
+    ensures took_part { IfErr result (λ e. IfWriteFault e (λ gone. (gone < length bytes.now)
+        × Took (sink_tells K.held K.taken sink.old) (sink_tells K.held K.taken sink.new) (take gone bytes.now))) }
     ensures write_fault { OnErr result (Rose (K.faults sink.old) (K.faults sink.new)) }
     ensures later { K.faults sink.old ≤ K.faults sink.new }
 {

@@ -1,9 +1,11 @@
 -- What the top call promises where the input is too large, where it is refused, and where it has an answer.
-use Rattle.std.proofs.Common.{◌≡◌, ◌⊎◌, ◌∙◌, ℕ, ◌+◌, ◌<◌, ◌≤◌, true, false, List, [], length, replicate, Option, Some, None, Result, Ok, Err, refl, sym, ap, inl, inr, subst, arith, lit<}
+use Rattle.std.proofs.Common.{◌≡◌, ◌⊎◌, ◌∙◌, ℕ, ◌+◌, ◌<◌, ◌≤◌, true, false, List, [], ◌++◌, length, take, drop, append-nil, IfSome, Option, Some, None, Result, Ok, Err, refl, sym, ap, inl, inr, subst, arith, lit<}
 use Rattle.std.proofs.lemmas.Bool.{lt-ltb, le-ltb}
-use Rattle.std.proofs.lemmas.List.{length-replicate}
-use Rattle.std.specs.Io.KnownBytes.{Appends, IsAtEnd}
+use Rattle.std.proofs.lemmas.List.{take_at}
+use Rattle.std.proofs.Math.Seq.{take_all, drop-append_seam}
+use Rattle.std.specs.Io.KnownBytes.{Consumes}
 use Rattle.io_edge.specs.Causes.{Rose, ConsumesAtMost}
+use Rattle.io_edge.specs.Gone.{SourceTells, SinkTells, Gave, Took}
 use Rattle.core_model.specs.declared.loaded.Loaded.{Loaded}
 use Rattle.bundle_text.specs.Lines.{bundle_of}
 use Rattle.bundle_text.specs.declared.bundle.Bundle.{Bundle}
@@ -38,7 +40,7 @@ use Rattle.kernel_cli.specs.Drills.{IsDrillOrder, drill_report}
 use Rattle.kernel_cli.proofs.SoundCores.{loads_as}
 use Rattle.kernel_cli.specs.Found.{IsRunOrder, IsFoundIn, Loads, AssembleAs, IsFound, SecureTasksStaySecure}
 use Rattle.kernel_cli.specs.Routines.{IsAnswerOver}
-use Rattle.kernel_cli.specs.TopCall.{WereLeft, Answers, AppendsPart, IsCoreSoundFor, BeginsToAnswer, WritesOrFails, IsTooLarge, WasRead, IsReadOut, WasReadFor, IsFirstTaskSecure, WasInput, WasLoaded, IsAnswered}
+use Rattle.kernel_cli.specs.TopCall.{WereLeft, WereGiven, Answers, TookPart, IsCoreSoundFor, BeginsToAnswer, WritesOrFails, HasEnded, IsTooLarge, WasRead, IsReadOut, WasReadFor, TakesAtMost, IsFirstTaskSecure, IsInputSecure, WasInput, WasLoaded, IsAnswered}
 
 -- What is found of whatever a bundle loads as is found by a command that reads one.
 bundle_found : (command : Command) (bytes : List ℕ) (found : Finding) → reads_bundle command ≡ true
@@ -113,29 +115,37 @@ is_refused (LintDrill seed tasks) bytes reads over = (
   (λ words l. absurd (too_many_assemble_as_nothing bytes over words l), λ parts e. absurd (cc e)),
 )
 
--- bytes that a source may have had that tells none
-bytes_of_length : (n : ℕ) → (bytes : List ℕ) × (n ≡ length bytes)
-bytes_of_length n = (replicate n 0, sym (length-replicate n 0))
+-- too many bytes: all that were left, where they are told, and else those that were given
+too_many_of : (left left' : Option (List ℕ)) (given given' bytes : List ℕ)
+    → IfSome left (λ told. (input_limit < length told) × (left' ≡ Some (drop (input_limit + 1) told)))
+    → length bytes ≡ input_limit + 1 → given' ≡ given ++ bytes → Consumes left left' bytes
+    → (all : List ℕ) × IfSome left (λ told. all ≡ told) × (given' ≡ given ++ take (input_limit + 1) all) × (input_limit < length all)
+too_many_of None left' given given' bytes large long gave consumed =
+    (bytes, tt, gave ∙ ap (λ l. given ++ l) (sym (take_all (input_limit + 1) bytes (omega (arith, long)))), omega (arith, long))
+too_many_of (Some told) None given given' bytes large long gave consumed = absurd consumed
+too_many_of (Some told) (Some rest) given given' bytes large long gave consumed =
+    (told, refl, gave ∙ ap (λ l. given ++ l) (sym (ap (λ l. take (input_limit + 1) l) consumed ∙ take_at bytes rest (input_limit + 1) long)), large.0)
 
-untold_bytes : (n : ℕ) → input_limit < n → (bytes : List ℕ) × (input_limit < length bytes)
-untold_bytes n over = let some = bytes_of_length n in (some.0, rw some.1 at over)
+too_many : (command : Command) (src src' : SourceTells) → IsTooLarge src src'
+    → (bytes : List ℕ) × WereLeft bytes src × WereGiven (Some command) bytes src src' × (input_limit < length bytes)
+too_many command src src' large =
+    let gave = large.gave in
+    let some = too_many_of src.left src'.left src.given src'.given gave.0 large.told gave.1 gave.2.given gave.2.left in
+    (some.0, some.1, (λ _. some.2), some.3)
 
--- too many bytes, which are those that were left
-too_many : (left left' : Option (List ℕ)) → IsTooLarge left left' → (bytes : List ℕ) × WereLeft bytes left × (input_limit < length bytes)
-too_many None left' large = let some = untold_bytes 4194305 (lit< tt) in (some.0, tt, some.1)
-too_many (Some bytes) left' large = (bytes, refl, large.0)
+all_written : (command : Command) (src src' : SourceTells) (sink sink' : SinkTells) → reads_source (Some command) ≡ true → IsTooLarge src src' → Took sink sink' too_large.text
+    → Answers (Some command) BadInput src src' sink sink'
+all_written command src src' sink sink' reads large a =
+    let some = too_many command src src' large in
+    let is = is_refused command some.0 reads some.3 in
+    (some.0, Nothing, some.1, some.2, is.1, ap (λ x. x.status) is.0, rw is.0 a)
 
-all_written : (command : Command) (left left' held held' : Option (List ℕ)) → reads_source (Some command) ≡ true → IsTooLarge left left' → Appends held held' too_large.text → Answers (Some command) BadInput left held held'
-all_written command left left' held held' reads large a =
-    let some = too_many left left' large in
-    let is = is_refused command some.0 reads some.2 in
-    (some.0, Nothing, some.1, is.1, ap (λ x. x.status) is.0, rw is.0 a)
-
-part_written : (command : Command) (left left' held held' : Option (List ℕ)) → reads_source (Some command) ≡ true → IsTooLarge left left' → AppendsPart held held' too_large.text → BeginsToAnswer (Some command) left held held'
-part_written command left left' held held' reads large a =
-    let some = too_many left left' large in
-    let is = is_refused command some.0 reads some.2 in
-    (some.0, Nothing, some.1, is.1, rw is.0 a)
+part_written : (command : Command) (src src' : SourceTells) (sink sink' : SinkTells) → reads_source (Some command) ≡ true → IsTooLarge src src' → TookPart sink sink' too_large.text
+    → BeginsToAnswer (Some command) src src' sink sink'
+part_written command src src' sink sink' reads large a =
+    let some = too_many command src src' large in
+    let is = is_refused command some.0 reads some.3 in
+    (some.0, Nothing, some.1, some.2, is.1, rw is.0 a)
 
 -- the answer over no more bytes than the limit
 input_answered : (command : Command) (found : Finding) (bytes : List ℕ) → length bytes ≤ input_limit
@@ -179,25 +189,36 @@ loads_answer command found bytes loaded reads l =
 
 -- The task is secure of which a verdict is fine.
 is_certified : (bytes : List ℕ) (found : Finding) → IsFound (Some Certify) bytes found → (answer_of (Some Certify) found bytes).status ≡ Fine
-    → SecureTasksStaySecure → (left : Option (List ℕ)) → WereLeft bytes left → IsFirstTaskSecure left
-is_certified bytes found is fine securing None were = tt
-is_certified bytes found is fine securing (Some told) were = λ loaded l T at.
-    (let here : LoadAs 8 bytes loaded = subst (λ (xs : List ℕ). LoadAs 8 xs loaded) (sym were) l in
-    securing 8 (omega arith, omega arith) bytes loaded here T
-    (fine_is_secure T loaded.worlds (judgement_in found) ((is loaded here).certified T at)
-    (sym (ap (λ (a : Answer). a.status) (loads_answer Certify found bytes loaded refl here)) ∙ fine)))
+    → SecureTasksStaySecure → IsFirstTaskSecure bytes
+is_certified bytes found is fine securing = λ loaded l T at.
+    securing 8 (omega arith, omega arith) bytes loaded l T
+    (fine_is_secure T loaded.worlds (judgement_in found) ((is loaded l).certified T at)
+    (sym (ap (λ (a : Answer). a.status) (loads_answer Certify found bytes loaded refl l)) ∙ fine))
 
-for_command : (command : Command) (bytes : List ℕ) (found : Finding) (left : Option (List ℕ)) → IsFound (Some command) bytes found → SecureTasksStaySecure → WereLeft bytes left
-    → Some command ≡ Some Certify → (answer_of (Some command) found bytes).status ≡ Fine → IsFirstTaskSecure left
-for_command command bytes found left is securing were e fine =
+-- So it is in the bytes that were told, and in those that were given.
+told_secure : (left : Option (List ℕ)) (bytes : List ℕ) → IfSome left (λ told. bytes ≡ told) → IsFirstTaskSecure bytes → IfSome left IsFirstTaskSecure
+told_secure None bytes were secure = tt
+told_secure (Some told) bytes were secure = subst IsFirstTaskSecure were secure
+
+same_rest : (front a b : List ℕ) → front ++ a ≡ front ++ b → a ≡ b
+same_rest front a b e = sym (drop-append_seam front a) ∙ ap (λ l. drop (length front) l) e ∙ drop-append_seam front b
+
+for_command : (command : Command) (bytes : List ℕ) (found : Finding) (src src' : SourceTells) → IsFound (Some command) bytes found → SecureTasksStaySecure
+    → WereLeft bytes src → src'.given ≡ src.given ++ bytes
+    → Some command ≡ Some Certify → (answer_of (Some command) found bytes).status ≡ Fine → IsInputSecure src src'
+for_command command bytes found src src' is securing were gave e fine =
     let same : command ≡ Certify = cc e in
-    is_certified bytes found (subst (λ (c : Command). IsFound (Some c) bytes found) same is)
-    (subst (λ (c : Command). (answer_of (Some c) found bytes).status ≡ Fine) same fine) securing left were
+    let secure = is_certified bytes found (subst (λ (c : Command). IsFound (Some c) bytes found) same is)
+    (subst (λ (c : Command). (answer_of (Some c) found bytes).status ≡ Fine) same fine) securing in
+    record {
+      told = told_secure src.left bytes were secure;
+      gave = λ other also. subst IsFirstTaskSecure (same_rest src.given bytes other (sym gave ∙ also)) secure;
+    }
 
 -- The command reads, and what holds of every core, and of a task that is certified.
-pub record IsBacked (command : Command) (left : Option (List ℕ)) : Type 0 where
+pub record IsBacked (command : Command) (src : SourceTells) : Type 0 where
   pub reads : reads_source (Some command) ≡ true
-  pub cores : IsCoreSoundFor (Some command) left
+  pub cores : IsCoreSoundFor (Some command) src
   pub securing : SecureTasksStaySecure
 
 -- Bytes that are refused load as nothing.
@@ -227,45 +248,59 @@ found_of command bytes loaded found reads from is = bundle_found command bytes f
     (λ other l. subst (λ (x : Loaded). IsFoundIn command x found) (one_loaded (harts_of command) bytes loaded other from (loads_as command bytes other reads l)) is)
 
 -- bytes that may have been left
-some_left : (left : Option (List ℕ)) → (bytes : List ℕ) × WereLeft bytes left
+some_left : (left : Option (List ℕ)) → (bytes : List ℕ) × IfSome left (λ told. bytes ≡ told)
 some_left None = ([], tt)
 some_left (Some bytes) = (bytes, refl)
 
 -- A source that is left as it is gives nothing.
-nothing_taken : (left : Option (List ℕ)) (most : ℕ) → ConsumesAtMost left left most
-nothing_taken None most = ([], omega arith, tt)
-nothing_taken (Some bytes) most = ([], omega arith, refl)
+none_consumed : (left : Option (List ℕ)) → Consumes left left []
+none_consumed None = tt
+none_consumed (Some bytes) = refl
 
--- Of a source and a sink: what their bytes are, as far as they tell them, and the faults that they count.
-module _ {S K : Type 0} (left : S → Option (List ℕ)) (read_faults : S → ℕ) (held : K → Option (List ℕ)) (write_faults : K → ℕ) where
+nothing_taken : (src : SourceTells) → TakesAtMost src src
+nothing_taken src =
+    let none = none_consumed src.left in
+    record {
+      told = ([], omega arith, none);
+      gave = ([], omega arith, record { given = sym (append-nil src.given); left = none });
+    }
+
+-- All of an input within the limit was given.
+all_given : (command : Command) (src src' : SourceTells) (bytes : List ℕ) → WasInput src src' bytes → WereGiven (Some command) bytes src src'
+all_given command src src' bytes was =
+    let within = was.within in
+    λ _. was.gave.given ∙ ap (λ l. src.given ++ l) (sym (take_all (input_limit + 1) bytes (omega (arith, within))))
+
+-- Of a source and a sink: what they tell of their bytes, and the faults that they count.
+module _ {S K : Type 0} (source : S → SourceTells) (read_faults : S → ℕ) (kept : K → SinkTells) (write_faults : K → ℕ) where
   abbrev IsAnsweredBy : Command → S → S → K → K → Status → Type 0
-  IsAnsweredBy command src src' sink sink' status = IsAnswered left read_faults held write_faults (Some command) src src' sink sink' status
+  IsAnsweredBy command src src' sink sink' status = IsAnswered source read_faults kept write_faults (Some command) src src' sink sink' status
 
   abbrev IsWritten : Status → List ℕ → K → K → Status → Type 0
-  IsWritten asked text sink sink' status = WritesOrFails asked (held sink) (held sink') (write_faults sink) (write_faults sink') text status
+  IsWritten asked text sink sink' status = WritesOrFails asked (kept sink) (kept sink') (write_faults sink) (write_faults sink') text status
 
   -- what a status promises beside what all do
   abbrev Ending : Command → S → S → K → K → Status → Type 0
-  Ending command src src' sink sink' BadWords = (Some command ≡ None) × Appends (held sink) (held sink') words_refused.text
-  Ending command src src' sink sink' Fine = IsReadOut (Some command) (left src') × Answers (Some command) Fine (left src) (held sink) (held sink')
-  Ending command src src' sink sink' BadInput = WasRead (left src) (left src') × Answers (Some command) BadInput (left src) (held sink) (held sink')
-  Ending command src src' sink sink' LogFull = IsAtEnd (left src') × Answers (Some command) LogFull (left src) (held sink) (held sink')
+  Ending command src src' sink sink' BadWords = (Some command ≡ None) × Took (kept sink) (kept sink') words_refused.text
+  Ending command src src' sink sink' Fine = IsReadOut (Some command) (source src') × Answers (Some command) Fine (source src) (source src') (kept sink) (kept sink')
+  Ending command src src' sink sink' BadInput = WasRead (source src) (source src') × Answers (Some command) BadInput (source src) (source src') (kept sink) (kept sink')
+  Ending command src src' sink sink' LogFull = HasEnded (source src') × Answers (Some command) LogFull (source src) (source src') (kept sink) (kept sink')
   Ending command src src' sink sink' statuses.Verdict =
-      IsAtEnd (left src') × Answers (Some command) statuses.Verdict (left src) (held sink) (held sink')
+      HasEnded (source src') × Answers (Some command) statuses.Verdict (source src) (source src') (kept sink) (kept sink')
   Ending command src src' sink sink' ReadFault =
       Rose (read_faults src) (read_faults src') × (reads_source (Some command) ≡ true) × (sink' ≡ sink)
   Ending command src src' sink sink' WriteFault =
-      Rose (write_faults sink) (write_faults sink') × BeginsToAnswer (Some command) (left src) (held sink) (held sink')
-      × WasReadFor (Some command) (left src) (left src')
+      Rose (write_faults sink) (write_faults sink') × BeginsToAnswer (Some command) (source src) (source src') (kept sink) (kept sink')
+      × WasReadFor (Some command) (source src) (source src')
   Ending command src src' sink sink' Memory = sink' ≡ sink
 
   -- so a call has ended as it promises
   ended : (command : Command) (src src' : S) (sink sink' : K) (status : Status)
       → (reads_source (Some command) ≡ false → src' ≡ src)
       → Ending command src src' sink sink' status
-      → IsCoreSoundFor (Some command) (left src)
-      → (Some command ≡ Some Certify → status ≡ Fine → IsFirstTaskSecure (left src))
-      → ConsumesAtMost (left src) (left src') (input_limit + 1)
+      → IsCoreSoundFor (Some command) (source src)
+      → (Some command ≡ Some Certify → status ≡ Fine → IsInputSecure (source src) (source src'))
+      → TakesAtMost (source src) (source src')
       → IsAnsweredBy command src src' sink sink' status
   ended command src src' sink sink' status unread ending sound certified taken =
       let E : Status → Type 0 = λ s. Ending command src src' sink sink' s in
@@ -288,12 +323,12 @@ module _ {S K : Type 0} (left : S → Option (List ℕ)) (read_faults : S → �
   -- A text was written with the status that was asked for it, or a part of it.
   ended_by_text : (command : Command) (src src' : S) (sink sink' : K) (asked status : Status) (text : List ℕ)
       → (reads_source (Some command) ≡ false → src' ≡ src)
-      → (Appends (held sink) (held sink') text → Ending command src src' sink sink' asked)
-      → (AppendsPart (held sink) (held sink') text → BeginsToAnswer (Some command) (left src) (held sink) (held sink'))
-      → WasReadFor (Some command) (left src) (left src')
-      → IsCoreSoundFor (Some command) (left src)
-      → (Some command ≡ Some Certify → asked ≡ Fine → IsFirstTaskSecure (left src))
-      → ConsumesAtMost (left src) (left src') (input_limit + 1)
+      → (Took (kept sink) (kept sink') text → Ending command src src' sink sink' asked)
+      → (TookPart (kept sink) (kept sink') text → BeginsToAnswer (Some command) (source src) (source src') (kept sink) (kept sink'))
+      → WasReadFor (Some command) (source src) (source src')
+      → IsCoreSoundFor (Some command) (source src)
+      → (Some command ≡ Some Certify → asked ≡ Fine → IsInputSecure (source src) (source src'))
+      → TakesAtMost (source src) (source src')
       → IsWritten asked text sink sink' status
       → IsAnsweredBy command src src' sink sink' status
   ended_by_text command src src' sink sink' asked status text unread whole part read sound certified taken (inl w) =
@@ -306,8 +341,8 @@ module _ {S K : Type 0} (left : S → Option (List ℕ)) (read_faults : S → �
   -- Memory ran out before anything was written.
   ended_without_memory : (command : Command) (src src' : S) (sink sink' : K) (status : Status)
       → (reads_source (Some command) ≡ false → src' ≡ src)
-      → IsCoreSoundFor (Some command) (left src)
-      → ConsumesAtMost (left src) (left src') (input_limit + 1)
+      → IsCoreSoundFor (Some command) (source src)
+      → TakesAtMost (source src) (source src')
       → sink' ≡ sink → status ≡ Memory
       → IsAnsweredBy command src src' sink sink' status
   ended_without_memory command src src' sink sink' status unread sound taken same memory =
@@ -315,9 +350,9 @@ module _ {S K : Type 0} (left : S → Option (List ℕ)) (read_faults : S → �
       (λ e fine. absurd (cc (sym memory ∙ fine))) taken
 
   pub answered_without_memory : (command : Command) (src src' : S) (sink : K)
-      → ConsumesAtMost (left src) (left src') (input_limit + 1)
+      → TakesAtMost (source src) (source src')
       → reads_source (Some command) ≡ true
-      → IsCoreSoundFor (Some command) (left src)
+      → IsCoreSoundFor (Some command) (source src)
       → IsAnsweredBy command src src' sink sink Memory
   answered_without_memory command src src' sink taken reads sound =
       ended_without_memory command src src' sink sink Memory (λ e. absurd (cc (sym reads ∙ e))) sound taken refl refl
@@ -325,29 +360,29 @@ module _ {S K : Type 0} (left : S → Option (List ℕ)) (read_faults : S → �
   -- The source counted a fault.
   pub answered_unread : (command : Command) (src src' : S) (sink : K)
       → Rose (read_faults src) (read_faults src')
-      → ConsumesAtMost (left src) (left src') (input_limit + 1)
+      → TakesAtMost (source src) (source src')
       → reads_source (Some command) ≡ true
-      → IsCoreSoundFor (Some command) (left src)
+      → IsCoreSoundFor (Some command) (source src)
       → IsAnsweredBy command src src' sink sink ReadFault
   answered_unread command src src' sink rose taken reads sound =
       ended command src src' sink sink ReadFault (λ e. absurd (cc (sym reads ∙ e))) (rose, reads, refl) sound (λ _ fine. absurd (cc fine)) taken
 
   -- The refusal of too many bytes was written, or a part of it.
   pub answered_too_large : (command : Command) (src src' : S) (sink sink' : K) (status : Status)
-      → IsTooLarge (left src) (left src')
-      → ConsumesAtMost (left src) (left src') (input_limit + 1)
+      → IsTooLarge (source src) (source src')
+      → TakesAtMost (source src) (source src')
       → IsWritten BadInput too_large.text sink sink' status
       → reads_source (Some command) ≡ true
-      → IsCoreSoundFor (Some command) (left src)
+      → IsCoreSoundFor (Some command) (source src)
       → IsAnsweredBy command src src' sink sink' status
   answered_too_large command src src' sink sink' status large taken written reads sound =
       ended_by_text command src src' sink sink' BadInput status too_large.text (λ e. absurd (cc (sym reads ∙ e)))
-      (λ a. (inr large, all_written command (left src) (left src') _ _ reads large a)) (part_written command (left src) (left src') _ _ reads large)
+      (λ a. (inr large, all_written command (source src) (source src') (kept sink) (kept sink') reads large a)) (part_written command (source src) (source src') (kept sink) (kept sink') reads large)
       (λ _. inr large) sound (λ _ fine. absurd (cc fine)) taken written
 
   -- what an answer promises, by its status
-  of_status : (command : Command) (src src' : S) (sink sink' : K) (asked : Status) → IsOfAnswer asked → IsAtEnd (left src')
-      → Answers (Some command) asked (left src) (held sink) (held sink') → Ending command src src' sink sink' asked
+  of_status : (command : Command) (src src' : S) (sink sink' : K) (asked : Status) → IsOfAnswer asked → HasEnded (source src')
+      → Answers (Some command) asked (source src) (source src') (kept sink) (kept sink') → Ending command src src' sink sink' asked
   of_status command src src' sink sink' Fine ok end a = (λ _. end, a)
   of_status command src src' sink sink' statuses.Verdict ok end a = (end, a)
   of_status command src src' sink sink' BadInput ok end a = (inl end, a)
@@ -359,98 +394,96 @@ module _ {S K : Type 0} (left : S → Option (List ℕ)) (read_faults : S → �
 
   -- The answer was written, or a part of it.
   answered_by : (command : Command) (src src' : S) (sink sink' : K) (status : Status) (bytes : List ℕ) (found : Finding) (answer : Answer)
-      → WereLeft bytes (left src) → IsFound (Some command) bytes found → answer_of (Some command) found bytes ≡ answer → IsOfAnswer answer.status
-      → IsAtEnd (left src') → ConsumesAtMost (left src) (left src') (input_limit + 1)
+      → WasInput (source src) (source src') bytes → IsFound (Some command) bytes found → answer_of (Some command) found bytes ≡ answer → IsOfAnswer answer.status
       → IsWritten answer.status answer.text sink sink' status
-      → IsBacked command (left src)
+      → IsBacked command (source src)
       → IsAnsweredBy command src src' sink sink' status
-  answered_by command src src' sink sink' status bytes found answer were finds is kind end taken written backed =
+  answered_by command src src' sink sink' status bytes found answer was finds is kind written backed =
+      let given = all_given command (source src) (source src') bytes was in
       let same_status = ap (λ (a : Answer). a.status) is in
       let same_text = sym (ap (λ (a : Answer). a.text) is) in
       ended_by_text command src src' sink sink' answer.status status answer.text (λ e. absurd (cc (sym backed.reads ∙ e)))
-      (λ a. of_status command src src' sink sink' answer.status kind end
-      (bytes, found, were, finds, same_status, subst (λ (text : List ℕ). Appends (held sink) (held sink') text) same_text a))
-      (λ a. (bytes, found, were, finds, subst (λ (text : List ℕ). AppendsPart (held sink) (held sink') text) same_text a))
-      (λ _. inl end) backed.cores
-      (λ e fine. for_command command bytes found (left src) finds backed.securing were e (same_status ∙ fine)) taken written
+      (λ a. of_status command src src' sink sink' answer.status kind was.end
+      (bytes, found, was.were, given, finds, same_status, subst (λ (text : List ℕ). Took (kept sink) (kept sink') text) same_text a))
+      (λ a. (bytes, found, was.were, given, finds, subst (λ (text : List ℕ). TookPart (kept sink) (kept sink') text) same_text a))
+      (λ _. inl was.end) backed.cores
+      (λ e fine. for_command command bytes found (source src) (source src') finds backed.securing was.were was.gave.given e (same_status ∙ fine)) was.taken written
 
   -- so where a response is this answer
   answered_so : (command : Command) (src src' : S) (sink sink' : K) (status : Status) (bytes : List ℕ) (found : Finding) (response : Response) (answer : Answer)
-      → WereLeft bytes (left src) → IsFound (Some command) bytes found → answer_of (Some command) found bytes ≡ answer → IsAnswer response answer
-      → IsAtEnd (left src') → ConsumesAtMost (left src) (left src') (input_limit + 1)
+      → WasInput (source src) (source src') bytes → IsFound (Some command) bytes found → answer_of (Some command) found bytes ≡ answer → IsAnswer response answer
       → IsWritten (status_of response.outcome) response.text.items sink sink' status
-      → IsBacked command (left src)
+      → IsBacked command (source src)
       → IsAnsweredBy command src src' sink sink' status
-  answered_so command src src' sink sink' status bytes found response answer were finds is by end taken written backed =
-      answered_by command src src' sink sink' status bytes found answer were finds is (subst IsOfAnswer by.status (of_answer response.outcome)) end taken
+  answered_so command src src' sink sink' status bytes found response answer was finds is by written backed =
+      answered_by command src src' sink sink' status bytes found answer was finds is (subst IsOfAnswer by.status (of_answer response.outcome))
       (subst (λ (text : List ℕ). IsWritten answer.status text sink sink' status) by.text
       (subst (λ (asked : Status). IsWritten asked response.text.items sink sink' status) by.status written)) backed
 
   -- The refusal of the input was written, or a part of it.
   pub answered_refused : (command : Command) (src src' : S) (sink sink' : K) (status : Status) (bytes : List ℕ) (response : Response)
-      → reads_bundle command ≡ true → WasInput (left src) (left src') bytes
+      → reads_bundle command ≡ true → WasInput (source src) (source src') bytes
       → IsRefusedFor (harts_of command) bytes response
       → IsWritten (status_of response.outcome) response.text.items sink sink' status
-      → IsBacked command (left src)
+      → IsBacked command (source src)
       → IsAnsweredBy command src src' sink sink' status
   answered_refused command src src' sink sink' status bytes response reads was r written backed =
-      answered_so command src src' sink sink' status bytes Nothing response (bundle_answer command Nothing (bundle_of bytes)) was.were
+      answered_so command src src' sink sink' status bytes Nothing response (bundle_answer command Nothing (bundle_of bytes)) was
       (none_found command bytes reads (λ loaded l. refused_load_as_nothing (harts_of command) bytes response r loaded l))
-      (is_answered_by_bundle command Nothing bytes reads was.within) (r.answer command Nothing refl) was.end was.taken written backed
+      (is_answered_by_bundle command Nothing bytes reads was.within) (r.answer command Nothing refl) written backed
 
   -- The answer over an input of code was written, or a part of it.
   pub answered_code : (command : Command) (src src' : S) (sink sink' : K) (status : Status) (bytes : List ℕ) (response : Response)
-      → WasInput (left src) (left src') bytes
+      → WasInput (source src) (source src') bytes
       → IsAnswerOver command bytes response
       → IsWritten (status_of response.outcome) response.text.items sink sink' status
-      → IsBacked command (left src)
+      → IsBacked command (source src)
       → IsAnsweredBy command src src' sink sink' status
   answered_code command src src' sink sink' status bytes response was answer written backed =
-      answered_so command src src' sink sink' status bytes answer.0 response (answer_of (Some command) answer.0 bytes) was.were
-      answer.1 refl answer.2 was.end was.taken written backed
+      answered_so command src src' sink sink' status bytes answer.0 response (answer_of (Some command) answer.0 bytes) was
+      answer.1 refl answer.2 written backed
 
   -- The answer over the bundle was written, or a part of it.
   pub answered_loaded : (command : Command) (src src' : S) (sink sink' : K) (status : Status) (loaded : Loaded) (found : Finding) (response : Response)
       → reads_bundle command ≡ true
-      → WasLoaded (harts_of command) (left src) (left src') loaded
+      → WasLoaded (harts_of command) (source src) (source src') loaded
       → IsFoundIn command loaded found
       → IsAnswer response (command_answer command found loaded)
       → IsWritten (status_of response.outcome) response.text.items sink sink' status
-      → IsBacked command (left src)
+      → IsBacked command (source src)
       → IsAnsweredBy command src src' sink sink' status
   answered_loaded command src src' sink sink' status loaded found response reads was finds is written backed =
-      answered_so command src src' sink sink' status was.bytes found response (command_answer command found loaded) was.were
-      (found_of command was.bytes loaded found reads was.from finds) (is_answered_by_loaded command found was.bytes loaded reads was.within was.from) is was.end was.taken
-      written backed
+      answered_so command src src' sink sink' status was.bytes found response (command_answer command found loaded) was.was
+      (found_of command was.bytes loaded found reads was.from finds) (is_answered_by_loaded command found was.bytes loaded reads was.was.within was.from) is written backed
 
   -- The end of a run over a bundle that loads: memory ran out, or its report was written, or a part of it.
   pub answered_after_run : (harts : ℕ) (src src' : S) (sink sink' : K) (status : Status) (loaded : Loaded)
-      → WasLoaded harts (left src) (left src') loaded
+      → WasLoaded harts (source src) (source src') loaded
       → ((sink' ≡ sink) × (status ≡ Memory)) ⊎ ((order : List ℕ) × IsRunOrder loaded order × IsWritten Fine (order_report loaded order) sink sink' status)
-      → IsBacked (Run harts) (left src)
+      → IsBacked (Run harts) (source src)
       → IsAnsweredBy (Run harts) src src' sink sink' status
   answered_after_run harts src src' sink sink' status loaded was (inl none) backed =
-      ended_without_memory (Run harts) src src' sink sink' status (λ e. absurd (cc e)) backed.cores was.taken none.0 none.1
+      ended_without_memory (Run harts) src src' sink sink' status (λ e. absurd (cc e)) backed.cores was.was.taken none.0 none.1
   answered_after_run harts src src' sink sink' status loaded was (inr run) backed =
       let order = run.0 in
-      answered_by (Run harts) src src' sink sink' status was.bytes (Ordered order) (done (order_report loaded order)) was.were
+      answered_by (Run harts) src src' sink sink' status was.bytes (Ordered order) (done (order_report loaded order)) was.was
       (found_of (Run harts) was.bytes loaded (Ordered order) refl was.from run.1)
-      (is_answered_by_loaded (Run harts) (Ordered order) was.bytes loaded refl was.within was.from) tt was.end was.taken run.2 backed
+      (is_answered_by_loaded (Run harts) (Ordered order) was.bytes loaded refl was.was.within was.from) tt run.2 backed
 
   -- The end of a command that doesn't read, nor certifies: memory ran out, or its answer was written, or a part of it.
   unread_without_memory : (command : Command) (src : S) (sink sink' : K) (status : Status)
-      → IsCoreSoundFor (Some command) (left src) → (sink' ≡ sink) × (status ≡ Memory)
+      → IsCoreSoundFor (Some command) (source src) → (sink' ≡ sink) × (status ≡ Memory)
       → IsAnsweredBy command src src sink sink' status
   unread_without_memory command src sink sink' status sound none =
-      ended_without_memory command src src sink sink' status (λ _. refl) sound (nothing_taken (left src) (input_limit + 1)) none.0 none.1
+      ended_without_memory command src src sink sink' status (λ _. refl) sound (nothing_taken (source src)) none.0 none.1
 
   unread_written : (command : Command) (src : S) (sink sink' : K) (status : Status) (found : Finding) (text : List ℕ)
-      → reads_source (Some command) ≡ false → IsCoreSoundFor (Some command) (left src) → (Some command ≡ Some Certify → ⊥)
+      → reads_source (Some command) ≡ false → IsCoreSoundFor (Some command) (source src) → (Some command ≡ Some Certify → ⊥)
       → ((bytes : List ℕ) → IsFound (Some command) bytes found) → ((bytes : List ℕ) → answer_of (Some command) found bytes ≡ done text)
       → IsWritten Fine text sink sink' status
       → IsAnsweredBy command src src sink sink' status
   unread_written command src sink sink' status found text unread sound other finds is written =
-      let some = some_left (left src) in
+      let some = some_left (source src).left in
       let same_text = sym (ap (λ (a : Answer). a.text) (is some.0)) in
       ended_by_text command src src sink sink' Fine status text (λ _. refl)
       (λ a. (
@@ -459,13 +492,14 @@ module _ {S K : Type 0} (left : S → Option (List ℕ)) (read_faults : S → �
           some.0,
           found,
           some.1,
+          λ reads. absurd (cc (sym unread ∙ reads)),
           finds some.0,
           ap (λ (a : Answer). a.status) (is some.0),
-          subst (λ (t : List ℕ). Appends (held sink) (held sink') t) same_text a,
+          subst (λ (t : List ℕ). Took (kept sink) (kept sink') t) same_text a,
         ),
       ))
-      (λ a. (some.0, found, some.1, finds some.0, subst (λ (t : List ℕ). AppendsPart (held sink) (held sink') t) same_text a))
-      (λ reads. absurd (cc (sym unread ∙ reads))) sound (λ e _. absurd (other e)) (nothing_taken (left src) (input_limit + 1)) written
+      (λ a. (some.0, found, some.1, (λ reads. absurd (cc (sym unread ∙ reads))), finds some.0, subst (λ (t : List ℕ). TookPart (kept sink) (kept sink') t) same_text a))
+      (λ reads. absurd (cc (sym unread ∙ reads))) sound (λ e _. absurd (other e)) (nothing_taken (source src)) written
 
   -- The end of `gen`.
   pub answered_generated : (seed tasks : ℕ) (src : S) (sink sink' : K) (status : Status)

@@ -9,4 +9,5 @@ pub mod CountedFits
 pub mod Reporting
 pub mod FullLogs
 pub mod SoundCores
+pub mod DrillEnds
 pub mod Answering

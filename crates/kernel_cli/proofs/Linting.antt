@@ -5,7 +5,6 @@ use Rattle.core_model.specs.KernelWords.{linked_code}
 use Rattle.core_model.specs.declared.loaded.Loaded.{Loaded}
 use Rattle.masked_gen.specs.Generator.{generated}
 use Rattle.rv_loader.specs.Loading.{loading_of}
-use Rattle.rv_loader.specs.declared.fault.LoadFault.TheVariants.{Memory}
 use Rattle.scrub_rules.specs.Parts.{Parts}
 use Rattle.scrub_rules.specs.Broken.{AreAcceptedParts}
 use Rattle.scrub_rules.specs.declared.rule.Rule.TheVariants as rules

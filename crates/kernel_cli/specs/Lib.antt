@@ -7,6 +7,7 @@ pub mod Replays
 pub mod Findings
 pub mod Playing
 pub mod Drills
+pub mod DrillLaws
 pub mod Lints
 pub mod Answer
 pub mod Soundness

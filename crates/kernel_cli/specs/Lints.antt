@@ -1,6 +1,6 @@
 -- What `lint` checks and says: the lines of its input are code, which assembles to words, and these are a save part, EBREAK and a restore part
 -- that may stand in place of the kernel's, or break a rule first at one place.
-use Rattle.std.specs.Prelude.{ℕ, List, [], ◌++◌, Result, Ok, Err, codes, decimal, length}
+use Rattle.std.specs.Prelude.{ℕ, List, [], ◌++◌, Result, Ok, Err, codes, decimal}
 use Rattle.bundle_text.specs.TextLines.{text_lines_of}
 use Rattle.bundle_text.specs.declared.bundle.BundleFault.{BundleFault}
 use Rattle.bundle_text.specs.declared.bundle.Code.TheVariants.{Text}

@@ -1,13 +1,19 @@
 -- What holds of the core that a command runs.
-use Rattle.std.specs.Prelude.{◌≡◌, ℕ, ◌≤◌, ⊤, List, length, take, Ok}
+use Rattle.std.specs.Prelude.{◌≡◌, ◌≢◌, ℕ, ◌≤◌, ⊤, List, length, take, slice_get, Some, Ok}
+use Rattle.hart_model.specs.HartState.{HartState}
+use Rattle.hart_model.specs.StepResult.{Wedged}
+use Rattle.hart_model.specs.HartStep.{hart_step}
 use Rattle.core_model.specs.declared.event.Event.{Event}
 use Rattle.core_model.specs.declared.loaded.Loaded.{Loaded}
 use Rattle.core_model.specs.Events.{events_of}
 use Rattle.core_model.specs.KernelWords.{KernelCodeState, kernel_code, linked_code}
 use Rattle.core_model.specs.Core.{CoreState, core_after}
+use Rattle.core_model.specs.Loaded.{IsLoaded}
+use Rattle.core_model.specs.LowEquivalence.{AreAlike}
 use Rattle.core_model.specs.Soundness.{IsCoreSound}
 use Rattle.core_invariant.specs.Homes.{HasExactHomes}
 use Rattle.core_invariant.specs.Outputs.{AreOutputsSound}
+use Rattle.probing_laws.specs.TwoWorlds.{AgreeUpToNames}
 use Rattle.bundle_text.specs.declared.bundle.Bundle.{Bundle}
 use Rattle.bundle_text.specs.Lines.{bundle_of}
 use Rattle.masked_gen.specs.Generator.{generated}
@@ -50,11 +56,16 @@ core_at code loaded events count = core_after loaded code (take count events)
 
 -- After any number of these events: no slot and no hart has two tasks, each ready context stands for its task, a hart in user mode is where
 -- the undisturbed run of its task is, and each entry of the log is public or shows a value or a change of one task's undisturbed run; each
--- task has exactly one home; and what a task has put out is a beginning of its output alone.
+-- task has exactly one home; what a task has put out is a beginning of its output alone; and no hart is wedged, so its next step goes on or
+-- comes to a queue action. What public values tell decides the rest: the log of every bundle that is alike in all that is public agrees
+-- publicly with this one, and has the same entry wherever what the entry names is the same.
 pub record IsRunSound (code : KernelCodeState) (loaded : Loaded) (events : List Event) : Type 0 where
   pub sound : (count : ℕ) → IsCoreSound loaded (core_at code loaded events count)
   pub homes : (count : ℕ) → HasExactHomes (length loaded.tasks) (core_at code loaded events count).board
   pub outputs : (count : ℕ) → AreOutputsSound loaded (core_at code loaded events count)
+  pub unwedged : (count i : ℕ) (h : HartState) → slice_get (core_at code loaded events count).harts i ≡ Some h → hart_step code.words h ≢ Wedged
+  pub alike : (count : ℕ) (other : Loaded) → IsLoaded other → AreAlike loaded other
+      → AgreeUpToNames loaded.tasks other.tasks (core_at code loaded events count).log (core_at code other events count).log
 
 -- So it is of every bundle that bytes are read and loaded as, for any number of harts and by any events.
 abbrev pub AreCoresSound : Type 0

@@ -2,16 +2,18 @@
 
 ghost use Rattle.std.specs.Prelude.{◌≡◌, ◌↔◌, ℕ, List, Some};
 ghost use Rattle.kernel_cli.specs.Commands.{SpellsCommand, command_of};
+ghost use Rattle.kernel_cli.specs.DrillLaws.{DrillOrdersAreOne, DrillsEndAll};
 ghost use Rattle.kernel_cli.specs.Scripts.{LogIsFullExactly};
 ghost use Rattle.kernel_cli.specs.Soundness.{AreCoresSound, AreGeneratedCoresSound, AreLintedCoresSound};
 ghost use Rattle.kernel_cli.specs.Found.{SecureTasksStaySecure};
 ghost use Rattle.kernel_cli.specs.declared.command.Command.{Command};
 
 use core_invariant::{
-    core_stays_sound, each_task_has_one_home, emitted_is_kernel, outputs_stay_beginnings,
+    core_stays_sound, each_task_has_one_home, emitted_is_kernel, no_hart_wedges,
+    outputs_stay_beginnings,
 };
 use noninterference::emitted_is_alike;
-use probing_laws::security_transfers;
+use probing_laws::{security_transfers, two_worlds_agree};
 use routine_laws::accepted_routines_do;
 use rv_loader::loading_is_sound;
 
@@ -34,7 +36,10 @@ pub fn cores_are_sound()
     core_stays_sound();
     outputs_stay_beginnings();
     each_task_has_one_home();
+    no_hart_wedges();
+    two_worlds_agree();
     emitted_is_kernel();
+    emitted_is_alike();
 }
 
 /// A task that is secure by one probe in its run alone, in the worlds of whatever bundle bytes are read as and that loads for some number of
@@ -56,7 +61,10 @@ pub fn generated_cores_are_sound()
     core_stays_sound();
     outputs_stay_beginnings();
     each_task_has_one_home();
+    no_hart_wedges();
+    two_worlds_agree();
     emitted_is_kernel();
+    emitted_is_alike();
 }
 
 /// So is it under the kernel that has the two parts of any accepted words in place of its own.
@@ -67,5 +75,19 @@ pub fn linted_cores_are_sound()
     core_stays_sound();
     outputs_stay_beginnings();
     each_task_has_one_home();
+    no_hart_wedges();
+    two_worlds_agree();
     accepted_routines_do();
+}
+
+/// A bundle has one order of hart 0 alone at most that lets hart 0 find nothing. So there is one text of a drill.
+pub fn drill_orders_are_one()
+    ensures one { DrillOrdersAreOne }
+{}
+
+/// After the order of a drill all tasks have ended, under every kernel.
+pub fn drills_end_all()
+    ensures ended { DrillsEndAll }
+{
+    loading_is_sound();
 }

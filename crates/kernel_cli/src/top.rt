@@ -13,6 +13,7 @@ ghost use Rattle.core_model.specs.declared.loaded.Loaded.{Loaded as LoadedBundle
 ghost use Rattle.rv_loader.specs.Loading.{loading_of};
 ghost use Rattle.masked_gen.specs.Generator.{generated};
 ghost use Rattle.kernel_cli.specs.Outcome.{status_of};
+ghost use Rattle.io_edge.specs.Gone.{source_tells, sink_tells};
 ghost use Rattle.kernel_cli.specs.TopCall.{WritesOrFails, WasInput, WasLoaded, IsAnswered};
 
 use crate::answer::{
@@ -27,9 +28,9 @@ use crate::laws::{
 use crate::lints::answer_code;
 use crate::status::Status;
 use core_model::Loaded;
-use hart_runner::{Finished, run_threads};
+use hart_runner::{Finished, Unfinished, run_threads};
 use io_edge::{Gate, ReadEnd, Sink, Source, read_all, write_all};
-use std::alloc::{AllocError, Global};
+use std::alloc::Global;
 use std::sync::Wait;
 use std::thread::Threads;
 
@@ -38,7 +39,7 @@ const INPUT_LIMIT: usize = 4_194_304;
 
 /// Writes a text and ends with its status, or with a write fault.
 fn put<K: Sink>(sink: &mut K, text: &[u8], status: Status) -> Status
-    ensures written { WritesOrFails status (K.held sink.old) (K.held sink.new) (K.faults sink.old) (K.faults sink.new) text.now result }
+    ensures written { WritesOrFails status (sink_tells K.held K.taken sink.old) (sink_tells K.held K.taken sink.new) (K.faults sink.old) (K.faults sink.new) text.now result }
 {
     match write_all(sink, text) {
         Ok(()) => status,
@@ -48,7 +49,7 @@ fn put<K: Sink>(sink: &mut K, text: &[u8], status: Status) -> Status
 
 /// Writes an answer and ends with its status, or with a write fault.
 fn put_answer<K: Sink>(sink: &mut K, response: &Response) -> Status
-    ensures written { WritesOrFails (status_of response.now.outcome) (K.held sink.old) (K.held sink.new) (K.faults sink.old) (K.faults sink.new) response.now.text.items result }
+    ensures written { WritesOrFails (status_of response.now.outcome) (sink_tells K.held K.taken sink.old) (sink_tells K.held K.taken sink.new) (K.faults sink.old) (K.faults sink.new) response.now.text.items result }
 {
     put(sink, response.text.as_slice(), status_of(response.outcome))
 }
@@ -63,9 +64,9 @@ fn read_input<S: Source, K: Sink>(
     requires harts { IsHartCount (harts_of command) }
     requires tasks { HasTasks command }
     requires reads { reads_source (Some command) ≡ true }
-    ensures read { IfOk result (λ bytes. WasInput (S.left src.old) (S.left src.new) bytes.items) }
+    ensures read { IfOk result (λ bytes. WasInput (source_tells S.left S.given S.ended src.old) (source_tells S.left S.given S.ended src.new) bytes.items) }
     ensures kept { IfOk result (λ bytes. sink.new ≡ sink.old) }
-    ensures answered { IfErr result (IsAnswered S.left S.faults K.held K.faults (Some command) src.old src.new sink.old sink.new) }
+    ensures answered { IfErr result (IsAnswered (source_tells S.left S.given S.ended) S.faults (sink_tells K.held K.taken) K.faults (Some command) src.old src.new sink.old sink.new) }
 {
     cores_are_sound();
     linted_cores_are_sound();
@@ -87,9 +88,9 @@ fn load_input<S: Source, K: Sink>(
     requires harts { IsHartCount (harts_of command) }
     requires tasks { HasTasks command }
     requires reads { reads_bundle command ≡ true }
-    ensures loaded { IfOk result (WasLoaded (harts_of command) (S.left src.old) (S.left src.new)) }
+    ensures loaded { IfOk result (WasLoaded (harts_of command) (source_tells S.left S.given S.ended src.old) (source_tells S.left S.given S.ended src.new)) }
     ensures kept { IfOk result (λ loaded. sink.new ≡ sink.old) }
-    ensures answered { IfErr result (IsAnswered S.left S.faults K.held K.faults (Some command) src.old src.new sink.old sink.new) }
+    ensures answered { IfErr result (IsAnswered (source_tells S.left S.given S.ended) S.faults (sink_tells K.held K.taken) K.faults (Some command) src.old src.new sink.old sink.new) }
 {
     cores_are_sound();
     linted_cores_are_sound();
@@ -109,7 +110,7 @@ fn do_code<S: Source, K: Sink>(alloc: Global, command: Command, src: &mut S, sin
     requires harts { IsHartCount (harts_of command) }
     requires tasks { HasTasks command }
     requires code { reads_code command ≡ true }
-    ensures answered { IsAnswered S.left S.faults K.held K.faults (Some command) src.old src.new sink.old sink.new result }
+    ensures answered { IsAnswered (source_tells S.left S.given S.ended) S.faults (sink_tells K.held K.taken) K.faults (Some command) src.old src.new sink.old sink.new result }
 {
     cores_are_sound();
     linted_cores_are_sound();
@@ -134,7 +135,7 @@ fn do_command<S: Source, K: Sink>(
     requires harts { IsHartCount (harts_of command) }
     requires tasks { HasTasks command }
     requires reads { reads_bundle command ≡ true }
-    ensures answered { IsAnswered S.left S.faults K.held K.faults (Some command) src.old src.new sink.old sink.new result }
+    ensures answered { IsAnswered (source_tells S.left S.given S.ended) S.faults (sink_tells K.held K.taken) K.faults (Some command) src.old src.new sink.old sink.new result }
 {
     cores_are_sound();
     linted_cores_are_sound();
@@ -151,7 +152,7 @@ fn do_command<S: Source, K: Sink>(
 /// Writes the bundle of a number and ends fine, or with a write fault; or memory ran out before.
 fn put_generated<K: Sink>(alloc: Global, seed: u64, tasks: u32, sink: &mut K) -> Status
     ensures written { (sink.new ≡ sink.old) × (result ≡ statuses.Memory)
-        ⊎ WritesOrFails statuses.Fine (K.held sink.old) (K.held sink.new) (K.faults sink.old) (K.faults sink.new) (gen_answer seed tasks).text result }
+        ⊎ WritesOrFails statuses.Fine (sink_tells K.held K.taken sink.old) (sink_tells K.held K.taken sink.new) (K.faults sink.old) (K.faults sink.new) (gen_answer seed tasks).text result }
 {
     match answer_gen(alloc, seed, tasks) {
         Err(_) => Status::Memory,
@@ -165,7 +166,7 @@ fn put_drilled<K: Sink>(alloc: Global, seed: u64, tasks: u32, sink: &mut K) -> S
     requires few { tasks ≤ 32 }
     ensures written { (sink.new ≡ sink.old) × (result ≡ statuses.Memory)
         ⊎ (loaded : LoadedBundle) × (loading_of (generated seed tasks) 1 ≡ Ok loaded) × (order : List ℕ) × IsDrillOrder kernel_code loaded order
-        × WritesOrFails statuses.Fine (K.held sink.old) (K.held sink.new) (K.faults sink.old) (K.faults sink.new) (drill_report kernel_code loaded order) result }
+        × WritesOrFails statuses.Fine (sink_tells K.held K.taken sink.old) (sink_tells K.held K.taken sink.new) (K.faults sink.old) (K.faults sink.new) (drill_report kernel_code loaded order) result }
 {
     match answer_drill(alloc, seed, tasks) {
         Err(_) => Status::Memory,
@@ -183,7 +184,7 @@ fn do_served<S: Source, K: Sink>(
     requires served { served_by_one (Some command) ≡ Some command }
     requires harts { IsHartCount (harts_of command) }
     requires tasks { HasTasks command }
-    ensures answered { IsAnswered S.left S.faults K.held K.faults (Some command) src.old src.new sink.old sink.new result }
+    ensures answered { IsAnswered (source_tells S.left S.given S.ended) S.faults (sink_tells K.held K.taken) K.faults (Some command) src.old src.new sink.old sink.new result }
 {
     generated_cores_are_sound();
     match command {
@@ -207,7 +208,7 @@ pub fn one_thread<S: Source, K: Sink>(
     src: &mut S,
     sink: &mut K,
 ) -> Status
-    ensures answered { IsAnswered S.left S.faults K.held K.faults (served_by_one (command_of (map string_bytes words.now))) src.old src.new sink.old sink.new result }
+    ensures answered { IsAnswered (source_tells S.left S.given S.ended) S.faults (sink_tells K.held K.taken) K.faults (served_by_one (command_of (map string_bytes words.now))) src.old src.new sink.old sink.new result }
 {
     commands_are_decided();
     match read_words(words) {
@@ -220,12 +221,12 @@ pub fn one_thread<S: Source, K: Sink>(
 fn put_finished<K: Sink>(
     alloc: Global,
     loaded: &Loaded,
-    finished: Result<Finished, AllocError>,
+    finished: Result<Finished, Unfinished>,
     sink: &mut K,
 ) -> Status
     requires finished { IfOk finished (IsFinished loaded.now) }
     ensures written { (sink.new ≡ sink.old) × (result ≡ statuses.Memory) ⊎ (order : List ℕ) × IsRunOrder loaded.now order
-        × WritesOrFails statuses.Fine (K.held sink.old) (K.held sink.new) (K.faults sink.old) (K.faults sink.new) (order_report loaded.now order) result }
+        × WritesOrFails statuses.Fine (sink_tells K.held K.taken sink.old) (sink_tells K.held K.taken sink.new) (K.faults sink.old) (K.faults sink.new) (order_report loaded.now order) result }
 {
     let Ok(finished) = finished else {
         return Status::Memory;
@@ -249,7 +250,7 @@ pub fn run_harts<R: Threads + Wait + Sync, S: Source, K: Sink, G: Gate>(
     sink: &mut K,
     gate: &G,
 ) -> Status
-    ensures answered { IsAnswered S.left S.faults K.held K.faults (served_by_threads (command_of (map string_bytes words.now))) src.old src.new sink.old sink.new result }
+    ensures answered { IsAnswered (source_tells S.left S.given S.ended) S.faults (sink_tells K.held K.taken) K.faults (served_by_threads (command_of (map string_bytes words.now))) src.old src.new sink.old sink.new result }
 {
     commands_are_decided();
     cores_are_sound();
@@ -274,7 +275,7 @@ pub fn msktask<R: Threads + Wait + Sync, S: Source, K: Sink, G: Gate>(
     sink: &mut K,
     gate: &G,
 ) -> Status
-    ensures answered { IsAnswered S.left S.faults K.held K.faults (command_of (map string_bytes words.now)) src.old src.new sink.old sink.new result }
+    ensures answered { IsAnswered (source_tells S.left S.given S.ended) S.faults (sink_tells K.held K.taken) K.faults (command_of (map string_bytes words.now)) src.old src.new sink.old sink.new result }
 {
     match read_words(words) {
         Some(Command::Run { .. }) => run_harts(rt, alloc, words, src, sink, gate),

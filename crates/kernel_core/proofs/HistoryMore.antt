@@ -8,7 +8,7 @@ use Rattle.core_model.specs.Board.{BoardState}
 use Rattle.core_model.specs.Loaded.{IsLoaded}
 use Rattle.core_model.specs.Core.{CoreState, CoreAndAction, event_result, after_event, after_go, after_tick, without_action}
 use Rattle.core_invariant.proofs.Events.{core-more}
-use Rattle.core_invariant.proofs.FromHarts.{stays-sound, outputs-stay, one-home-each}
+use Rattle.core_invariant.proofs.FromHarts.{stays-sound, outputs-stay, one-home-each, none-wedges}
 use Rattle.core_invariant.proofs.Proved.{kernel-harts}
 use Rattle.probe_log.specs.Counts.{StandFor}
 use Rattle.kernel_core.specs.Kernels.{IsWholeKernel}
@@ -88,4 +88,5 @@ sound-so t is_loaded is_kernel = record {
   sound = stays-sound kernel-harts t.kernel is_kernel.kernel t.loaded is_loaded t.events;
   homes = one-home-each kernel-harts t.kernel is_kernel.kernel t.loaded is_loaded t.events;
   outputs = outputs-stay kernel-harts t.kernel is_kernel.kernel t.loaded is_loaded t.events;
+  unwedged = none-wedges kernel-harts t.kernel is_kernel.kernel t.loaded is_loaded t.events;
 }

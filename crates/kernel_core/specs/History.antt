@@ -1,5 +1,8 @@
 -- What a core was told, and what it is then (this project's own).
-use Rattle.std.specs.Prelude.{◌≡◌, ℕ, Bool, List, [], ◌∷◌, ◌++◌, length}
+use Rattle.std.specs.Prelude.{◌≡◌, ◌≢◌, ℕ, Bool, List, [], ◌∷◌, ◌++◌, length, slice_get, Some}
+use Rattle.hart_model.specs.HartState.{HartState}
+use Rattle.hart_model.specs.StepResult.{Wedged}
+use Rattle.hart_model.specs.HartStep.{hart_step}
 use Rattle.core_model.specs.declared.event.Event.{Event}
 use Rattle.core_model.specs.declared.loaded.Loaded.{Loaded}
 use Rattle.core_model.specs.Core.{CoreState, core_after}
@@ -50,9 +53,10 @@ pub record IsCoreOf {K : Type 0} (t : History) (c : CoreValue K) : Type 0 where
   pub harts : c.run.harts ≡ (core_of t).harts
   pub counts : StandFor c.log.tally (core_of t).log
 
--- What holds of every core that was told something: it is sound, each task has exactly one home, and the outputs are beginnings of
--- those of the undisturbed runs.
+-- What holds of every core that was told something: it is sound, each task has exactly one home, the outputs are beginnings of those of the
+-- undisturbed runs, and no hart is wedged, so its next step goes on or comes to a queue action.
 pub record IsSoundCore (t : History) : Type 0 where
   pub sound : IsCoreSound t.loaded (core_of t)
   pub homes : HasExactHomes (length t.loaded.tasks) (core_of t).board
   pub outputs : AreOutputsSound t.loaded (core_of t)
+  pub unwedged : (i : ℕ) (h : HartState) → slice_get (core_of t).harts i ≡ Some h → hart_step t.kernel.code.words h ≢ Wedged

@@ -1,5 +1,6 @@
 mod Digits
 mod RunsOnce
 mod OrderOnce
+mod OfRuns
 -- Examples.
 mod TryOrders

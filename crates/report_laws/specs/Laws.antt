@@ -1,7 +1,12 @@
 -- What a report tells (this project's own).
 use Rattle.std.specs.Prelude.{◌≡◌, ℕ, ◌<◌, ◌^◌, List, length}
 use Rattle.std.specs.List.{AllByRecursion}
+use Rattle.core_model.specs.declared.loaded.Loaded.{Loaded}
+use Rattle.core_model.specs.Loaded.{IsLoaded}
+use Rattle.core_model.specs.Orders.{coarse_after, IsLegal}
+use Rattle.core_invariant.specs.KernelStates.{KernelParts, IsKernel}
 use Rattle.kernel_core.specs.declared.snapshot.Snapshot.{Snapshot}
+use Rattle.kernel_core.specs.Snapshots.{snapshot_of}
 use Rattle.report_text.specs.Report.{report_of}
 
 -- An order as memory can hold it: each hart's number is a byte, and its entries are fewer than 2 ^ 64.
@@ -12,3 +17,12 @@ pub record IsOrderOfBytes (order : List ℕ) : Type 0 where
 -- Two snapshots that have the same report have the same order.
 abbrev pub ReportsTellOrders : Type 0
 ReportsTellOrders = (s t : Snapshot) → IsOrderOfBytes s.order → IsOrderOfBytes t.order → report_of s ≡ report_of t → s.order ≡ t.order
+
+-- the report of the core after an order
+abbrev pub run_report : Loaded → KernelParts → List ℕ → List ℕ
+run_report loaded k order = report_of (snapshot_of (length loaded.tasks) (coarse_after loaded k.code order))
+
+-- Two legal orders of a loaded bundle whose cores have the same report are one order.
+abbrev pub RunReportsTellOrders : Type 0
+RunReportsTellOrders = (k : KernelParts) → IsKernel k → (loaded : Loaded) → IsLoaded loaded → (o p : List ℕ)
+    → IsLegal loaded k.code o → IsLegal loaded k.code p → run_report loaded k o ≡ run_report loaded k p → o ≡ p

@@ -1,5 +1,6 @@
 -- The end of a run over a bundle that loads, for 1 to 8 harts.
 use Rattle.std.proofs.Common.{◌≡◌, ◌⊎◌, ◌∙◌, ℕ, List, Option, Some, map, string_bytes, refl, sym, ap, subst}
+use Rattle.io_edge.specs.Gone.{source_tells, sink_tells}
 use Rattle.kernel_cli.specs.Commands.{command_of, served_by_threads}
 use Rattle.kernel_cli.specs.Replays.{order_report}
 use Rattle.kernel_cli.specs.Found.{IsRunOrder}
@@ -27,16 +28,16 @@ returns-in-Ok g c =
     sym c.read_words.ensures.command ∙ c.in-Some-Run.is ∙ ap (λ (x : Command). Some x) c.in-Some-Run.field-0-is in
     let count = spelled_harts words (Run harts) ((c.commands_are_decided.ensures.decided words (Run harts)).0 command) in
     let W : g.row.K.Denot → Type 0 = λ k. ((c.put_finished.new.sink ≡ k) × (c.put_finished.result ≡ Memory))
-    ⊎ ((order : List ℕ) × IsRunOrder c.in-Ok.loaded order × WritesOrFails Fine (g.K.Sink.held k) (g.K.Sink.held c.put_finished.new.sink)
+    ⊎ ((order : List ℕ) × IsRunOrder c.in-Ok.loaded order × WritesOrFails Fine (sink_tells g.K.Sink.held g.K.Sink.taken k) (sink_tells g.K.Sink.held g.K.Sink.taken c.put_finished.new.sink)
     (g.K.Sink.faults k) (g.K.Sink.faults c.put_finished.new.sink) (order_report c.in-Ok.loaded order) c.put_finished.result) in
-    let answered = answered_after_run g.S.Source.left g.S.Source.faults g.K.Sink.held g.K.Sink.faults harts c.args.src.now c.load_input.new.src c.args.sink.now
+    let answered = answered_after_run (source_tells g.S.Source.left g.S.Source.given g.S.Source.ended) g.S.Source.faults (sink_tells g.K.Sink.held g.K.Sink.taken) g.K.Sink.faults harts c.args.src.now c.load_input.new.src c.args.sink.now
     c.put_finished.new.sink c.put_finished.result c.in-Ok.loaded c.in-Ok.ensures.loaded (subst W c.in-Ok.ensures.kept c.put_finished.ensures.written)
     (record {
       reads = refl;
-      cores = core_sound_for c.cores_are_sound.ensures.sound c.linted_cores_are_sound.ensures.sound (Run harts) count tt refl (g.S.Source.left c.args.src.now);
+      cores = core_sound_for c.cores_are_sound.ensures.sound c.linted_cores_are_sound.ensures.sound (Run harts) count tt refl (source_tells g.S.Source.left g.S.Source.given g.S.Source.ended c.args.src.now);
       securing = c.secure_tasks_stay_secure.ensures.secure;
     }) in
     record {
-      answered = subst (λ (o : Option Command). IsAnswered g.S.Source.left g.S.Source.faults g.K.Sink.held g.K.Sink.faults (served_by_threads o) c.args.src.now
+      answered = subst (λ (o : Option Command). IsAnswered (source_tells g.S.Source.left g.S.Source.given g.S.Source.ended) g.S.Source.faults (sink_tells g.K.Sink.held g.K.Sink.taken) g.K.Sink.faults (served_by_threads o) c.args.src.now
           c.load_input.new.src c.args.sink.now c.put_finished.new.sink c.put_finished.result) (sym command) answered;
     }

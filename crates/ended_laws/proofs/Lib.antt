@@ -1,0 +1,5 @@
+pub mod SlotsUsed
+pub mod OneEntry
+pub mod Quiet
+pub mod OneHart
+pub mod Stopping
