@@ -1,0 +1,14 @@
+pub mod Tapes
+pub mod Permute
+pub mod Words
+pub mod Numbers
+pub mod Shifts
+pub mod Silent
+pub mod Come
+pub mod Secure
+pub mod Turns
+pub mod Sums
+pub mod Forms
+pub mod ByTwo
+pub mod TryForms
+pub mod TryTask
