@@ -24,6 +24,7 @@ impl Past {
     }
 
     /// These bytes went by too.
+    #[inline(always)]
     pub(crate) fn add(&mut self, _piece: &[u8])
         ensures bytes { self.new.bytes ≡ self.old.bytes ++ _piece.now }
     {}
