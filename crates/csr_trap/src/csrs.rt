@@ -1,6 +1,7 @@
 //! The registers, and what traps, their return and ticks do to them.
 
 ghost use Rattle.std.specs.Prelude.{◌≡◌, ◌%◌, true, false, is_some, unwrap_or};
+ghost use Rattle.hart_model.specs.Pmp.{boot_pmpcfg};
 ghost use Rattle.hart_model.specs.Csrs.{boot_csrs, mstatus_value, mie_value, csr_cell, with_mstatus, with_mie, with_public_csr, with_csr};
 ghost use Rattle.hart_model.specs.Traps.{csrs_after_trap, csrs_after_mret, takes_interrupts, interrupt_of};
 
@@ -112,6 +113,34 @@ impl Csrs {
         }
     }
 
+    /// The registers of the hart of this number as at boot, but for these: `mscratch`, `mepc`, which is the address of a word, `mcause`,
+    /// whether the timer is pending, and the four address words of the protection.
+    pub fn again(
+        hart: u32,
+        mscratch: Cell,
+        mepc: u32,
+        mcause: u32,
+        is_timer_pending: bool,
+        bounds: [u32; 4],
+    ) -> Csrs
+        requires aligned { mepc % 4 ≡ 0 }
+        ensures file { result ≡ record (boot_csrs hart) {
+            mscratch = mscratch;
+            mepc = mepc;
+            mcause = mcause;
+            is_timer_pending = is_timer_pending;
+            pmp = record { cfg = boot_pmpcfg; addrs = bounds };
+        } }
+    {
+        let mut csrs = Csrs::new(hart);
+        csrs.mscratch = mscratch;
+        csrs.mepc = mepc;
+        csrs.mcause = mcause;
+        csrs.is_timer_pending = is_timer_pending;
+        csrs.pmp.set_addrs(bounds);
+        csrs
+    }
+
     /// The present mode.
     pub fn mode(&self) -> Mode
         ensures mode { result ≡ self.now.mode }
@@ -124,6 +153,28 @@ impl Csrs {
         ensures file { result.now ≡ self.now.pmp }
     {
         &self.pmp
+    }
+
+    /// `mepc`: where the last trap was taken, or what was written since.
+    pub fn mepc(&self) -> u32
+        ensures address { result ≡ self.now.mepc }
+        ensures aligned { result % 4 ≡ 0 }
+    {
+        self.mepc
+    }
+
+    /// `mcause`: the cause of the last trap, or what was written since.
+    pub fn mcause(&self) -> u32
+        ensures cause { result ≡ self.now.mcause }
+    {
+        self.mcause
+    }
+
+    /// Whether the timer interrupt is pending.
+    pub fn is_timer_pending(&self) -> bool
+        ensures pending { result ≡ self.now.is_timer_pending }
+    {
+        self.is_timer_pending
     }
 
     /// `mstatus`: MIE bit 3, MPIE bit 7, MPP bits 12:11.

@@ -44,6 +44,15 @@ impl Bank {
         Ok(Bank { base, cells })
     }
 
+    /// The bank of these cells from the address `base` in bytes on. Takes no memory.
+    pub fn again(base: u32, cells: Vec<Cell>) -> Bank
+        requires aligned { base % 4 ≡ 0 }
+        requires in_space { base + 4 * length cells.items ≤ 2 ^ 32 }
+        ensures bank { result ≡ record { base = base; cells = cells.items } }
+    {
+        Bank { base, cells }
+    }
+
     /// The index of the word at an address.
     fn index(&self, addr: u32) -> Option<usize>
         ensures value { result ≡ index_in self.now.base (length self.now.cells) addr }

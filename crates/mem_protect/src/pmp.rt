@@ -64,6 +64,20 @@ impl Pmp {
         self.addrs[i as usize] = word;
     }
 
+    /// The four address words, entry 0 first.
+    pub fn addrs(&self) -> [u32; 4]
+        ensures words { result ≡ self.now.addrs }
+    {
+        self.addrs
+    }
+
+    /// Writes the four address words, entry 0 first.
+    pub fn set_addrs(&mut self, words: [u32; 4])
+        ensures file { self.new ≡ record self.old { addrs = words } }
+    {
+        self.addrs = words;
+    }
+
     /// Where an entry begins whose range ends at its address: at the address of the entry below, and at 0 for entry 0.
     fn range_start(&self, i: u32) -> u64
         requires entry { i < 4 }

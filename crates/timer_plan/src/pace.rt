@@ -19,14 +19,14 @@ pub struct Pace {
 }
 
 impl Model for Pace {
-    ghost use Rattle.std.specs.Prelude.{◌≤◌, drop};
+    ghost use Rattle.std.specs.Prelude.{◌≤◌, drop, length};
     ghost use Rattle.timer_plan.specs.Pace.{PaceState};
 
     ghost Value = { PaceState };
 
     ghost view = { λ p. record { left = drop p.drawn p.plan.quanta; tail = p.plan.tail; quantum = p.quantum; ran = p.ran } };
 
-    ghost invariant = { λ p. p.ran ≤ p.quantum };
+    ghost invariant = { λ p. (p.ran ≤ p.quantum) × (p.drawn ≤ length p.plan.quanta) };
 }
 
 impl Pace {
@@ -40,6 +40,20 @@ impl Pace {
             quantum: 0,
             ran: 0,
         }
+    }
+
+    /// The listed quanta that no take has drawn yet, in their order. Each is a number of instructions.
+    pub fn left(&self) -> &[u16]
+        ensures left { result.now ≡ self.now.left }
+    {
+        &self.plan.quanta.as_slice()[self.drawn..]
+    }
+
+    /// The quantum of each take once no listed one is left, a number of instructions.
+    pub fn tail(&self) -> u16
+        ensures tail { result ≡ self.now.tail }
+    {
+        self.plan.tail
     }
 
     /// A take gave a context: draws the next quantum of the plan, and no instruction ran since.
