@@ -1,6 +1,6 @@
 //! A task with how far it has come.
 
-ghost use Rattle.std.specs.Prelude.{◌≡◌, ◌+◌, ◌-◌, ◌^◌, ◌<◌, ◌↔◌, ◌++◌, ◌∷◌, [], length, set, slice_get, IsTrue, IfOk, IfSome};
+ghost use Rattle.std.specs.Prelude.{◌≡◌, ◌+◌, ◌-◌, ◌^◌, ◌<◌, ◌≤◌, ◌↔◌, ◌++◌, ◌∷◌, [], length, set, slice_get, IsTrue, IfOk, IfSome};
 ghost use Rattle.isa_model.specs.TaskPlaces.{IsValidTask};
 ghost use Rattle.hart_model.specs.Cells.{index_in};
 ghost use Rattle.hart_model.specs.Context.{task_of, fresh_body, data_word};
@@ -69,6 +69,38 @@ impl Body {
         })
     }
 
+    /// A task under its number that has come so far: its data words, `count` executed instructions, its place on the tape and its
+    /// output, with the room of all its output. `AllocError` is want of memory.
+    pub(crate) fn again(
+        alloc: Global,
+        task_no: u32,
+        task: &Task,
+        cells: Vec<Cell>,
+        count: u32,
+        tape_at: u32,
+        output: &[u32],
+    ) -> Result<Body, AllocError>
+        requires valid { IsValidTask task.now }
+        requires cells { length cells.items ≡ task.now.data_len }
+        requires tape { tape_at ≤ length task.now.tape }
+        requires output { length output.now ≤ task.now.out_max }
+        ensures body { IfOk result (λ b. b ≡ record (fresh_body task_no task.now) {
+            data_words = cells.items;
+            tape_at = tape_at;
+            output = output.now;
+            count = count;
+        }) }
+    {
+        Ok(Body {
+            task_no,
+            task: task.copy(alloc)?,
+            data_words: Bank::again(task.data_at, cells),
+            tape_at,
+            output: Output::again(alloc, output, task.out_max)?,
+            count,
+        })
+    }
+
     /// The task's number.
     pub fn task_no(&self) -> u32
         ensures number { result ≡ self.now.task_no }
@@ -89,6 +121,14 @@ impl Body {
         ensures count { result ≡ self.now.count }
     {
         self.count
+    }
+
+    /// How many words of the tape the task has taken, which is the place of the next one.
+    pub fn tape_at(&self) -> u32
+        ensures place { result ≡ self.now.tape_at }
+        ensures bound { result ≤ length self.now.tape }
+    {
+        self.tape_at
     }
 
     /// The output so far.

@@ -1,10 +1,10 @@
 //! A task in a slot.
 
-ghost use Rattle.std.specs.Prelude.{◌≡◌, ◌+◌, ◌^◌, ◌<◌, ◌↔◌, ◌++◌, ◌∷◌, [], length, set, IsTrue, IsSome, IfSome, Some};
+ghost use Rattle.std.specs.Prelude.{◌≡◌, ◌+◌, ◌^◌, ◌<◌, ◌≤◌, ◌↔◌, ◌++◌, ◌∷◌, [], length, set, IsTrue, IsSome, IfOk, IfSome, Some, None};
 ghost use Rattle.isa_model.specs.TaskPlaces.{IsValidTask};
 ghost use Rattle.hart_model.specs.Cells.{blank, index_in};
 ghost use Rattle.hart_model.specs.Csrs.{public};
-ghost use Rattle.hart_model.specs.Context.{slot_len, slot_address, slot_word, task_of, start_words, admit_of, done_of, IsScrubbed, StandsForTask};
+ghost use Rattle.hart_model.specs.Context.{slot_len, slot_address, slot_word, task_of, fresh_body, start_words, admit_of, done_of, IsScrubbed, StandsForTask};
 ghost use Rattle.mem_bank.specs.Bank.{IsWordAddress};
 ghost use Rattle.context_slot.specs.Fresh.{IsFresh, HasBlankRegisters};
 ghost use Rattle.context_slot.specs.DataBank.{data_bank, with_data_cell};
@@ -15,6 +15,7 @@ use crate::index::index_of;
 use crate::words::{SLOT_LEN, SlotWords};
 use hart_model::{Cell, Tag};
 use isa_model::{End, Task};
+use std::alloc::{AllocError, Global};
 use std::marker::Model;
 
 /// The word of a slot that has the pc.
@@ -94,6 +95,42 @@ impl Context {
             words,
             end: None,
         }
+    }
+
+    /// The context of a task, under its number and without an end, that has come so far: in this slot below 8 with these 36 words, these
+    /// data words, `count` executed instructions, at most the fuel, its place on the tape and its output, with the room of all its
+    /// output. `AllocError` is want of memory.
+    pub fn again(
+        alloc: Global,
+        task_no: u32,
+        task: &Task,
+        slot: u32,
+        words: Vec<Cell>,
+        cells: Vec<Cell>,
+        count: u32,
+        tape_at: u32,
+        output: &[u32],
+    ) -> Result<Context, AllocError>
+        requires valid { IsValidTask task.now }
+        requires slot { slot < 8 }
+        requires words { length words.items ≡ slot_len }
+        requires cells { length cells.items ≡ task.now.data_len }
+        requires count { count ≤ task.now.fuel }
+        requires tape { tape_at ≤ length task.now.tape }
+        requires output { length output.now ≤ task.now.out_max }
+        ensures context { IfOk result (λ c. c ≡ record {
+            body = record (fresh_body task_no task.now) { data_words = cells.items; tape_at = tape_at; output = output.now; count = count };
+            slot = slot;
+            words = words.items;
+            end = None;
+        }) }
+    {
+        Ok(Context {
+            body: Body::again(alloc, task_no, task, cells, count, tape_at, output)?,
+            slot,
+            words: SlotWords::again(words),
+            end: None,
+        })
     }
 
     /// The body.

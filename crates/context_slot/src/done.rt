@@ -23,8 +23,8 @@ impl Model for Done {
 }
 
 impl Done {
-    /// An ended task.
-    pub(crate) fn new(task: u32, count: u32, output: Words, end: End) -> Done
+    /// The ended task of this number, which executed so many instructions, with its whole output, and how it ended.
+    pub fn new(task: u32, count: u32, output: Words, end: End) -> Done
         ensures done { result ≡ record { task_no = task; count = count; output = output; end = end } }
     {
         Done {

@@ -1,6 +1,6 @@
 //! The output of a task.
 
-ghost use Rattle.std.specs.Prelude.{◌≡◌, ◌-◌, ◌<◌, ◌++◌, ◌∷◌, [], length, IfOk};
+ghost use Rattle.std.specs.Prelude.{◌≡◌, ◌-◌, ◌<◌, ◌≤◌, ◌++◌, ◌∷◌, [], length, IfOk};
 
 use isa_model::Words;
 use std::alloc::{AllocError, Global};
@@ -33,6 +33,16 @@ impl Output {
             words: Vec::with_capacity(alloc, max as usize)?,
             max,
         })
+    }
+
+    /// These words, and the room for the maximum. `AllocError` is want of memory for it.
+    pub(crate) fn again(alloc: Global, words: &[u32], max: u32) -> Result<Output, AllocError>
+        requires fits { length words.now ≤ max }
+        ensures output { IfOk result (λ o. o ≡ record { words = words.now; max = max }) }
+    {
+        let mut room = Vec::with_capacity(alloc, max as usize)?;
+        room.extend_from_slice(words)?;
+        Ok(Output { words: room, max })
     }
 
     /// Appends a word. Takes no memory.

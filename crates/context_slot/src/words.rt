@@ -32,6 +32,14 @@ impl Model for SlotWords {
 }
 
 impl SlotWords {
+    /// The words of a slot that has these cells, word 0 first.
+    pub(crate) fn again(cells: Vec<Cell>) -> SlotWords
+        requires length { length cells.items ≡ slot_len }
+        ensures words { result ≡ cells.items }
+    {
+        SlotWords { cells }
+    }
+
     /// The cells, word 0 first.
     pub fn as_slice(&self) -> &[Cell]
         ensures words { result.now ≡ self.now }
