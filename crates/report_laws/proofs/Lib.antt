@@ -2,5 +2,6 @@ mod Digits
 mod RunsOnce
 mod OrderOnce
 mod OfRuns
+mod Explained
 -- Examples.
 mod TryOrders

@@ -1,7 +1,9 @@
--- What a report tells (this project's own).
+-- What a report tells.
 use Rattle.std.specs.Prelude.{◌≡◌, ℕ, ◌<◌, ◌^◌, List, length}
 use Rattle.std.specs.List.{AllByRecursion}
+use Rattle.core_model.specs.declared.event.Event.{Event}
 use Rattle.core_model.specs.declared.loaded.Loaded.{Loaded}
+use Rattle.core_model.specs.Core.{core_after}
 use Rattle.core_model.specs.Loaded.{IsLoaded}
 use Rattle.core_model.specs.Orders.{coarse_after, IsLegal}
 use Rattle.core_invariant.specs.KernelStates.{KernelParts, IsKernel}
@@ -26,3 +28,8 @@ run_report loaded k order = report_of (snapshot_of (length loaded.tasks) (coarse
 abbrev pub RunReportsTellOrders : Type 0
 RunReportsTellOrders = (k : KernelParts) → IsKernel k → (loaded : Loaded) → IsLoaded loaded → (o p : List ℕ)
     → IsLegal loaded k.code o → IsLegal loaded k.code p → run_report loaded k o ≡ run_report loaded k p → o ≡ p
+
+-- Whatever events a kernel's core has made, its report counts no unexplained entry.
+abbrev pub NoEntryIsUnexplained : Type 0
+NoEntryIsUnexplained = (k : KernelParts) → IsKernel k → (loaded : Loaded) → IsLoaded loaded → (events : List Event)
+    → (snapshot_of (length loaded.tasks) (core_after loaded k.code events)).tally.unexplained ≡ 0
