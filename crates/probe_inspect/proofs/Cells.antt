@@ -170,7 +170,7 @@ module _ (T : Task) (worlds : List World) (course : Course) (rows : List Row) (a
       ap (λ (xs : List ℕ). get_or xs place 0) of.now ∙ value-at U 1 (latches_at course) m i (length course.steps) l low there in
       λ k. (was k, now k)
 
-  cell-is : (j : ℕ) → j < length worlds → (change : ℕ × ℕ)
+  pub cell-is : (j : ℕ) → j < length worlds → (change : ℕ × ℕ)
       → same_pair (change_in place (slice_get rows j)) change ≡ passes_at worlds (changes_so T m l change) j
   cell-is j under change =
       let w = some-at worlds j under in

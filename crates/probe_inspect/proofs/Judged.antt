@@ -42,7 +42,7 @@ low-bound low (l ∷ ls) (suc j) k order there =
     let rest = low-bound (latch_rank l) ls j k order.1 there in
     omega (arith, here, rest)
 
-order-at : (low : ℕ) (ls : List Latch) (i j : ℕ) (l k : Latch) → IsInOrderFrom low ls → i ≤ j → slice_get ls i ≡ Some l → slice_get ls j ≡ Some k
+pub order-at : (low : ℕ) (ls : List Latch) (i j : ℕ) (l k : Latch) → IsInOrderFrom low ls → i ≤ j → slice_get ls i ≡ Some l → slice_get ls j ≡ Some k
     → latch_rank l ≤ latch_rank k
 order-at low [] i j l k order up one two = absurd cc
 order-at low (q ∷ ls) zero zero l k order up one two =
@@ -87,7 +87,7 @@ module _ (T : Task) (worlds : List World) (ok : IsWorldsOf T worlds) (admitted :
   one = one-course-all T worlds course first at is all.take
 
   -- a step with a latch is one of the course
-  step-low : (m i : ℕ) (l : Latch) → slice_get (latches_at course m) i ≡ Some l → m < length course.steps
+  pub step-low : (m i : ℕ) (l : Latch) → slice_get (latches_at course m) i ≡ Some l → m < length course.steps
   step-low m i l there = go (place-of course m)
     where
       go : ((passed : Passed) × (slice_get course.steps m ≡ Some passed)) ⊎ (length course.steps ≤ m) → m < length course.steps
@@ -116,7 +116,7 @@ module _ (T : Task) (worlds : List World) (ok : IsWorldsOf T worlds) (admitted :
           ∙ ap (λ s. count_in worlds s (changes_so T m l change)) is_b
 
   -- a latch that is written stands among those of the step
-  written-index : (m : ℕ) (l : Latch) → is_written (task_in T (some-at worlds 0 admitted.some).0) m l ≡ true
+  pub written-index : (m : ℕ) (l : Latch) → is_written (task_in T (some-at worlds 0 admitted.some).0) m l ≡ true
       → (i : ℕ) × (slice_get (latches_at course m) i ≡ Some l)
   written-index m l written =
       let test : Latch → Bool = λ k. same_latch k l in
@@ -126,7 +126,7 @@ module _ (T : Task) (worlds : List World) (ok : IsWorldsOf T worlds) (admitted :
       let found = some-counted test (latches_at course m) (omega (arith, some, same)) in
       (found.0, found.2 ∙ ap (λ (k : Latch). Some k) (same_latch-true found.1 l found.3))
 
-  none-writes : (m : ℕ) (l : Latch) → is_written (task_in T (some-at worlds 0 admitted.some).0) m l ≡ false
+  pub none-writes : (m : ℕ) (l : Latch) → is_written (task_in T (some-at worlds 0 admitted.some).0) m l ≡ false
       → All (λ world. is_written (task_in T world) m l ≡ false) worlds
   none-writes m l none i d low =
       ap (λ (ls : List Latch). list_any (λ k. same_latch k l) ls)

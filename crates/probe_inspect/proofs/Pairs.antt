@@ -28,11 +28,11 @@ nat-equal x y = go (cases_order x y)
     go (inr (inl low)) = rw (lt-ltb x y low) (sym (ne_eqb x y (λ is. absurd (omega (arith, low, is)))))
     go (inr (inr up)) = rw (le-ltb x y (omega (arith, up))) (rw (ne_eqb x y (λ is. absurd (omega (arith, up, is)))) refl)
 
-then-equal : (o p : Ordering) → is_eq (ordering_then o p) ≡ (is_eq o && is_eq p)
+pub then-equal : (o p : Ordering) → is_eq (ordering_then o p) ≡ (is_eq o && is_eq p)
 then-equal o p = elim o as (λ v. is_eq (ordering_then v p) ≡ (is_eq v && is_eq p)) [ Less ↦ refl | Equal ↦ refl | Greater ↦ refl ]
 
 -- pairs tie where they are the same
-pair-equal : (x z : ℕ × ℕ) → is_eq (pair_cmp x z) ≡ same_pair x z
+pub pair-equal : (x z : ℕ × ℕ) → is_eq (pair_cmp x z) ≡ same_pair x z
 pair-equal x z =
     then-equal (nat_cmp x.0 z.0) (nat_cmp x.1 z.1)
     ∙ ap (λ (b : Bool). b && is_eq (nat_cmp x.1 z.1)) (nat-equal x.0 z.0)
@@ -42,7 +42,7 @@ pub often-same : (z : ℕ × ℕ) (xs : List (ℕ × ℕ)) → how_often pair_cm
 often-same z xs =
     count-agree (λ (x : ℕ × ℕ). is_eq (pair_cmp x z)) (λ (x : ℕ × ℕ). same_pair x z) xs (λ i d low. pair-equal (get_or xs i d) z)
 
-less-pair : (z w : ℕ × ℕ) → IsLess z w → is_lt (pair_cmp z w) ≡ true
+pub less-pair : (z w : ℕ × ℕ) → IsLess z w → is_lt (pair_cmp z w) ≡ true
 less-pair z w (inl low) = rw (lt-ltb z.0 w.0 low) refl
 less-pair z w (inr (same, low)) =
     rw (le-ltb z.0 w.0 (omega (arith, same))) (rw (eq-eqb z.0 w.0 same) (rw (lt-ltb z.1 w.1 low) refl))

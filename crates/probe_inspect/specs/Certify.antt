@@ -7,10 +7,13 @@ use Rattle.isa_model.specs.Limits.{max_worlds, max_tape_words}
 use Rattle.core_model.specs.Loaded.{AreAsLong}
 use Rattle.core_model.specs.Security.{task_in}
 use Rattle.probing_laws.specs.declared.verdict.CertFault.{CertFault}
+use Rattle.probing_laws.specs.Verdicts.{IsAdmitted}
 use Rattle.probing_laws.specs.Certified.{IsCertified}
+use Rattle.probe_inspect.specs.Columns.{AreGroupsOf, AreRowsAlong}
 use Rattle.probe_inspect.specs.Course.{IsCourseOf}
 use Rattle.probe_inspect.specs.Groups.{AreGroups, AsManyAs}
 use Rattle.probe_inspect.specs.Table.{TakeCourse, AreRowsTo}
+use Rattle.probe_inspect.specs.declared.certifying.Survey.{Survey}
 use Rattle.probe_inspect.specs.declared.course.Course.{Course}
 use Rattle.probe_inspect.specs.declared.groups.Group.{Group}
 use Rattle.probe_inspect.specs.declared.rows.Row.{Row}
@@ -39,3 +42,15 @@ IsFirstCourse T worlds course = (first : World) → slice_get worlds 0 ≡ Some 
 pub record AreAllRows (T : Task) (worlds : List World) (course : Course) (rows : List Row) : Type 0 where
   pub take : TakeCourse T worlds course (length worlds)
   pub each : AreRowsTo T worlds course (length worlds) rows
+
+-- The survey of a task in its worlds, which aren't too many: its groups, the course of all, and their rows.
+pub record IsSurveyOf (T : Task) (worlds : List World) (survey : Survey) : Type 0 where
+  pub admitted : IsAdmitted T worlds
+  pub groups : AreEvenGroups worlds survey.groups
+  pub course : IsFirstCourse T worlds survey.course
+  pub rows : AreAllRows T worlds survey.course survey.rows
+
+-- Each member of a group has a row, and each row all places of the course.
+pub record IsFitting (survey : Survey) : Type 0 where
+  pub groups : AreGroupsOf survey.groups survey.rows
+  pub along : AreRowsAlong survey.course survey.rows

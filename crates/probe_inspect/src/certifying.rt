@@ -1,6 +1,6 @@
 //! The verdict on a task in the worlds of its secret.
 
-ghost use Rattle.std.specs.Prelude.{◌<◌, ◌≤◌, All, IfErr, IfOk, OnOk, Err, length, Some};
+ghost use Rattle.std.specs.Prelude.{◌<◌, ◌≤◌, All, IfErr, IfOk, OnOk, Ok, Err, length, List, Some};
 ghost use Rattle.isa_model.specs.declared.task.Task.{Task};
 ghost use Rattle.isa_model.specs.TaskPlaces.{IsValidTask};
 ghost use Rattle.core_model.specs.declared.world.World.{World};
@@ -8,7 +8,7 @@ ghost use Rattle.isa_model.specs.Limits.{max_worlds, max_tape_words};
 ghost use Rattle.core_model.specs.Loaded.{AreAsLong};
 ghost use Rattle.probing_laws.specs.Verdicts.{IsAdmitted, IsEven};
 ghost use Rattle.probing_laws.specs.Certified.{IsCertified};
-ghost use Rattle.probe_inspect.specs.Certify.{IsRefused, IsFirstCourse, AreEvenGroups, AreAllRows, IsWorldsOf};
+ghost use Rattle.probe_inspect.specs.Certify.{IsRefused, IsFirstCourse, AreEvenGroups, AreAllRows, IsWorldsOf, IsSurveyOf, IsFitting};
 
 use crate::columns::verdict_on;
 use crate::course::{Course, course_of};
@@ -89,6 +89,48 @@ fn rows_along(
     }
 }
 
+/// A task in the worlds of its secret: the worlds by their secrets, which have equally many, the course that all of them take, and the
+/// changes along it in each world, in the order of the worlds.
+#[derive(Drop)]
+pub struct Survey {
+    pub groups: Items<Group>,
+    pub course: Course,
+    pub rows: Items<Row>,
+}
+
+/// The survey of a task in the worlds of its secret, by runs alone, one world after the other. Errors: the faults of [`certify`], in the
+/// same order.
+pub fn survey_of(alloc: Global, task: &Task, worlds: &[World]) -> Result<Survey, CertFault>
+    requires worlds { IsWorldsOf task.now worlds.now }
+    ensures survey { IfOk result (λ survey. IsSurveyOf task.now worlds.now survey) }
+    ensures fits { IfOk result IsFitting }
+    ensures refused { IfErr result (IsRefused task.now worlds.now) }
+{
+    admit(task, worlds)?;
+    let groups = even_groups(alloc, task, worlds)?;
+    let course = first_course(alloc, task, worlds)?;
+    let rows = rows_along(alloc, &course, task, worlds)?;
+    Ok(Survey {
+        groups: Items::new(groups),
+        course,
+        rows,
+    })
+}
+
+/// The verdict on what was surveyed: the first latch write that isn't independent of the secret, or secure. Errors: where memory ran out.
+pub fn verdict_of(alloc: Global, survey: &Survey) -> Result<Verdict, AllocError>
+    requires fits { IsFitting survey.now }
+    ensures verdict { (T : Task) (worlds : List World) → IsWorldsOf T worlds → IsSurveyOf T worlds survey.now
+        → IfOk result (λ verdict. IsCertified T worlds (Ok verdict)) }
+{
+    verdict_on(
+        alloc,
+        &survey.course,
+        survey.groups.as_slice(),
+        survey.rows.as_slice(),
+    )
+}
+
 /// The verdict on a task in the worlds of its secret, by runs alone, one world after the other: each world is the task with that
 /// world's tape. What is secure here is so in the log of every core that runs the task, beside any other tasks and after every list of
 /// events: the law [`transfer`](probing_laws::transfer).
@@ -106,9 +148,6 @@ pub fn certify(alloc: Global, task: &Task, worlds: &[World]) -> Result<Verdict, 
     requires as_long { AreAsLong worlds.now }
     ensures certified { IsCertified task.now worlds.now result }
 {
-    admit(task, worlds)?;
-    let groups = even_groups(alloc, task, worlds)?;
-    let course = first_course(alloc, task, worlds)?;
-    let rows = rows_along(alloc, &course, task, worlds)?;
-    Ok(verdict_on(alloc, &course, groups.as_slice(), rows.as_slice())?)
+    let survey = survey_of(alloc, task, worlds)?;
+    Ok(verdict_of(alloc, &survey)?)
 }

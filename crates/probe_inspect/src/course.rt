@@ -14,14 +14,14 @@ use std::alloc::{AllocError, Global};
 
 /// An instruction of a course: what others see of it, and the latches that it writes, in their order.
 #[derive(Drop)]
-pub(crate) struct Passed {
+pub struct Passed {
     pub control: Control,
     pub latches: Items<Latch>,
 }
 
 /// The instructions of a run alone, how many latches they write, and the pc at its end.
 #[derive(Drop)]
-pub(crate) struct Course {
+pub struct Course {
     pub steps: Items<Passed>,
     pub places: usize,
     pub last_pc: u32,

@@ -11,7 +11,7 @@ use std::alloc::{AllocError, Global};
 
 /// The worlds of a secret, by their numbers.
 #[derive(Drop)]
-pub(crate) struct Group {
+pub struct Group {
     pub secret: u32,
     pub members: Words,
 }

@@ -4,21 +4,24 @@
 
 pub mod certifying;
 mod columns;
-mod course;
+pub mod course;
 mod effects;
-mod groups;
+pub mod groups;
 mod latch_list;
-mod rows;
+pub mod rows;
 pub mod shown;
 mod table;
 pub mod trails;
 pub mod walk;
 
-pub use certifying::certify;
+pub use certifying::{Survey, certify, survey_of, verdict_of};
 pub use core_model::World;
+pub use course::{Course, Passed};
+pub use groups::Group;
 pub use hart_model::{Probe, Side, Why};
 pub use isa_model::{Latch, Task, Words};
 pub use probing_laws::{CertFault, Verdict};
+pub use rows::Row;
 pub use shown::{Shown, explain};
 pub use trails::{Trail, explain_by};
 pub use walk::Walk;

@@ -13,7 +13,7 @@ use std::alloc::{AllocError, Global};
 
 /// The values of latches before and after the instructions that write them, in the order of the course.
 #[derive(Drop)]
-pub(crate) struct Row {
+pub struct Row {
     pub was: Words,
     pub now: Words,
 }
