@@ -125,11 +125,11 @@ impl Csrs {
     ) -> Csrs
         requires aligned { mepc % 4 ≡ 0 }
         ensures file { result ≡ record (boot_csrs hart) {
-            mscratch = mscratch;
-            mepc = mepc;
-            mcause = mcause;
-            is_timer_pending = is_timer_pending;
-            pmp = record { cfg = boot_pmpcfg; addrs = bounds };
+          mscratch = mscratch;
+          mepc = mepc;
+          mcause = mcause;
+          is_timer_pending = is_timer_pending;
+          pmp = record { cfg = boot_pmpcfg; addrs = bounds };
         } }
     {
         let mut csrs = Csrs::new(hart);

@@ -1,9 +1,9 @@
 -- The pace of a plan, a take on.
-use Rattle.std.proofs.Common.{◌≡◌, ℕ, ◌+◌, get_or, drop, refl, sym, ap, ◌∙◌, add-one, add-zero, List, suc}
+use Rattle.std.proofs.Common.{◌≡◌, ℕ, ◌+◌, get_or, drop, sym, ap, ◌∙◌, add-one, add-zero}
 use Rattle.std.proofs.lemmas.List.{get_or-drop, drop-drop}
-use Rattle.core_model.specs.Plans.{quantum_of, quantum_after}
+use Rattle.core_model.specs.Plans.{quantum_after}
 use Rattle.core_model.specs.declared.plan.Plan.{Plan}
-use Rattle.timer_plan.specs.Pace.{PaceState, pace_of, after_take}
+use Rattle.timer_plan.specs.Pace.{pace_of, after_take}
 
 quantum_after-next : (plan : Plan) (takes : ℕ) → quantum_after plan (takes + 1) ≡ get_or (drop takes plan.quanta) 0 plan.tail
 quantum_after-next plan takes =

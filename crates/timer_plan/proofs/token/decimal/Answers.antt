@@ -1,5 +1,5 @@
 -- A digit more, and a byte that is none.
-use Rattle.std.proofs.Common.{◌≡◌, ◌+◌, ◌<◌, arith, true, false, get_or, sym, ◌∙◌}
+use Rattle.std.proofs.Common.{◌≡◌, arith, true, false, get_or, sym, ◌∙◌}
 use Rattle.std.proofs.lemmas.Int.Digits.{digits_value_more, digits_more}
 use Rattle.std.proofs.lemmas.Str.{digit_value_digit}
 use Rattle.std.proofs.lemmas.Str.Parse.{digit_at}

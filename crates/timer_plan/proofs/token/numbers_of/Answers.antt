@@ -1,5 +1,5 @@
 -- A digit, and what is read after it.
-use Rattle.std.proofs.Common.{◌≡◌, ◌-◌, ◌∷◌, arith, length, get_or, take, drop}
+use Rattle.std.proofs.Common.{◌-◌, arith, length, get_or, take, drop}
 use Rattle.std.specs.Int.{IsInRange as IsBetween}
 use Rattle.timer_plan.proofs.Spelling.{first_and_rest, digit_decimal, times_after}
 use Rattle.timer_plan.proofs.token.numbers_of.Goals as goal

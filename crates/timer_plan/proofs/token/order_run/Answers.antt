@@ -1,5 +1,5 @@
 -- By the numbers that are read.
-use Rattle.std.proofs.Common.{◌∙◌, arith, inl, inr}
+use Rattle.std.proofs.Common.{arith, inl, inr}
 use Rattle.timer_plan.specs.Tokens.{IsOutOfRange}
 use Rattle.timer_plan.proofs.Decides.{order_within, order_outside, order_bad}
 use Rattle.timer_plan.proofs.token.order_run.Goals as goal
