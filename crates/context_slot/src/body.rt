@@ -85,10 +85,10 @@ impl Body {
         requires tape { tape_at ≤ length task.now.tape }
         requires output { length output.now ≤ task.now.out_max }
         ensures body { IfOk result (λ b. b ≡ record (fresh_body task_no task.now) {
-            data_words = cells.items;
-            tape_at = tape_at;
-            output = output.now;
-            count = count;
+          data_words = cells.items;
+          tape_at = tape_at;
+          output = output.now;
+          count = count;
         }) }
     {
         Ok(Body {

@@ -119,10 +119,10 @@ impl Context {
         requires tape { tape_at ≤ length task.now.tape }
         requires output { length output.now ≤ task.now.out_max }
         ensures context { IfOk result (λ c. c ≡ record {
-            body = record (fresh_body task_no task.now) { data_words = cells.items; tape_at = tape_at; output = output.now; count = count };
-            slot = slot;
-            words = words.items;
-            end = None;
+          body = record (fresh_body task_no task.now) { data_words = cells.items; tape_at = tape_at; output = output.now; count = count };
+          slot = slot;
+          words = words.items;
+          end = None;
         }) }
     {
         Ok(Context {

@@ -1,5 +1,5 @@
-//! A task with how far it has come, and a context, which is such a task in a slot: it stands for its task at its count. Only a fresh
-//! body and the words of a slot take memory.
+//! A task with how far it has come, and a context, which is such a task in a slot: it stands for its task at its count. Only what
+//! makes a body and the words of a slot take memory.
 #![tactic(auto)]
 
 mod body;
