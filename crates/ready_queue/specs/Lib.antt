@@ -4,4 +4,5 @@ pub mod Gives
 pub mod Tasks
 pub mod HasRoom
 pub mod ReadyView
+pub mod BoardLists
 pub mod Laws

@@ -1,11 +1,13 @@
 //! The board.
 
-ghost use Rattle.std.specs.Prelude.{◌≡◌, ◌+◌, ◌<◌, ◌≤◌, ◌↔◌, [], length, All, IsNone, IsOk, IfOk, IfSome, OnOk, OnErr};
+ghost use Rattle.std.specs.Prelude.{◌≡◌, ◌+◌, ◌<◌, ◌≤◌, ◌↔◌, [], length, slice_get, option_map, All, IsNone, IsOk, IfOk, IfSome, OnOk, OnErr};
 ghost use Rattle.std.specs.Option.{option_copied};
-ghost use Rattle.core_model.specs.Board.{HasSpareForOut, all_ready, boot_board, take_of, give_ready_of, give_done_of};
+ghost use Rattle.core_model.specs.Board.{HasSpareForOut, all_ready, by_bands, boot_board, take_of, give_ready_of, give_done_of};
+ghost use Rattle.core_model.specs.Bands.{AreInTheirBands};
 ghost use Rattle.core_model.specs.Homes.{waiting_home, slot_home, hart_home, ended_home, home_of};
 ghost use Rattle.ready_queue.specs.declared.kind.Kind.{Kind};
 ghost use Rattle.ready_queue.specs.Bodies.{AreFreshFrom};
+ghost use Rattle.ready_queue.specs.BoardLists.{AreListsOf, ready_list};
 ghost use Rattle.ready_queue.specs.Gives.{HasNothingOut, IsOutOn, CanBeGiven};
 ghost use Rattle.ready_queue.specs.Tasks.{waiting_body, ready_context, entry_of, ended_task, IsNotWaiting, IsNotReady, IsNotOut, HasNotEnded, IsNoTask};
 
@@ -97,6 +99,41 @@ impl Board {
             out: Vec::with_capacity(alloc, slots as usize)?,
             ended: Vec::with_capacity(alloc, tasks)?,
             order: Vec::new(alloc),
+        })
+    }
+
+    /// The board that has just these lists, with nothing out: each band's ready list is its contexts of `ready` in their order. There
+    /// are 1 to 8 slots and 1 to 32 tasks, whose numbers are those from 0 on, each once, and a band for each, 0 or 1. What waits is at
+    /// its start. Each context stands for its task, without an end, in a slot of its own. `AllocError` is want of memory.
+    pub fn again(
+        alloc: Global,
+        slots: u32,
+        waiting: Vec<Body>,
+        ready: Vec<Context>,
+        ended: Vec<Done>,
+        bands: Vec<u32>,
+        order: Vec<u8>,
+    ) -> Result<Board, AllocError>
+        requires parts { AreListsOf slots waiting.items ready.items ended.items bands.items }
+        ensures lists { IfOk result (λ b. b.lists ≡ record {
+          waiting = waiting.items;
+          ready = by_bands bands.items ready.items;
+          out = [];
+          ended = ended.items;
+          order = order.items;
+          bands = bands.items;
+        }) }
+        ensures bands { IfOk result (λ b. AreInTheirBands b.lists) }
+        ensures spare { IfOk result HasSpareForOut }
+    {
+        let mut ended = ended;
+        ended.reserve(waiting.len() + ready.len())?;
+        Ok(Board {
+            waiting: VecDeque::from_vec(waiting),
+            ready: Ready::again(alloc, slots as usize, ready, bands)?,
+            out: Vec::with_capacity(alloc, slots as usize)?,
+            ended,
+            order,
         })
     }
 
@@ -247,6 +284,32 @@ impl Board {
             Some(_done) => Some(Home::Ended),
             None => None,
         }
+    }
+
+    /// The number of the task at this place among those that wait, in their order; None exactly past their end.
+    pub fn waiting_at(&self, i: u32) -> Option<u32>
+        ensures at { result ≡ option_map (λ body. body.task_no) (slice_get self.now.lists.waiting i) }
+    {
+        self.waiting.get(i as usize).map(|body| body.task_no())
+    }
+
+    /// The number of the task at this place among the ready ones of band 0 or 1, in the order in which they are taken; None exactly past
+    /// their end.
+    pub fn ready_at(&self, band: u32, i: u32) -> Option<u32>
+        requires band { band ≤ 1 }
+        ensures at { result ≡ option_map (λ c. c.body.task_no) (slice_get (ready_list band self.now.lists.ready) i) }
+    {
+        self.ready.task_at(band, i)
+    }
+
+    /// The number of the task at this place among the ended ones, in the order in which they ended; None exactly past their end.
+    pub fn ended_at(&self, i: u32) -> Option<u32>
+        ensures at { result ≡ option_map (λ done. done.task_no) (slice_get self.now.lists.ended i) }
+    {
+        self.ended
+            .as_slice()
+            .get(i as usize)
+            .map(|done| done.task())
     }
 
     /// The number of the hart of every action so far.

@@ -1,5 +1,5 @@
-//! The queue of tasks under a lock's one value: a board with its actions, each exactly its definition on the board's lists. Only boot
-//! and the calls that reserve take memory.
+//! The queue of tasks under a lock's one value: a board with its actions, each exactly its definition on the board's lists. Only boot,
+//! [`Board::again`] and the calls that reserve take memory.
 #![tactic(auto)]
 
 mod board;

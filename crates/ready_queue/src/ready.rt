@@ -1,8 +1,9 @@
 //! The contexts that are ready.
 
-ghost use Rattle.std.specs.Prelude.{◌≡◌, ◌≢◌, ◌↔◌, ◌<◌, [], length, get_or, find, All, IsNone, IfOk, ◌==◌};
+ghost use Rattle.std.specs.Prelude.{◌≡◌, ◌≢◌, ◌↔◌, ◌<◌, ◌≤◌, [], length, get_or, slice_get, find, option_map, All, IsNone, IfOk, ◌==◌};
 ghost use Rattle.std.specs.Option.{option_copied};
-ghost use Rattle.core_model.specs.Board.{all_ready, with_ready};
+ghost use Rattle.core_model.specs.Board.{all_ready, by_bands, with_ready};
+ghost use Rattle.ready_queue.specs.BoardLists.{ready_list};
 ghost use Rattle.ready_queue.specs.ReadyView.{next_of};
 
 use circular_buffer::HeapCircularBuffer;
@@ -46,6 +47,24 @@ impl Ready {
         })
     }
 
+    /// These contexts in their order, each in the list of its band, with room for so many, and the bands of the tasks. `AllocError` is
+    /// want of memory.
+    pub(crate) fn again(
+        alloc: Global,
+        room: usize,
+        contexts: Vec<Context>,
+        bands: Vec<u32>,
+    ) -> Result<Ready, AllocError>
+        requires room { length contexts.items ≤ room }
+        ensures ready { IfOk result (λ r. r ≡ record { lists = by_bands bands.items contexts.items; bands = bands.items; room = room }) }
+    {
+        let mut ready = Ready::new(alloc, room, bands)?;
+        for context in contexts {
+            ready.push(context);
+        }
+        Ok(ready)
+    }
+
     /// Whether a task is of band 0, by its number.
     fn goes_first(&self, task: u32) -> bool
         ensures first { result ≡ (get_or self.now.bands task 0 == 0) }
@@ -75,6 +94,15 @@ impl Ready {
             Some(context) => Some(context),
             None => self.second.pop_front(),
         }
+    }
+
+    /// The number of the task at a place of the list of band 0 or 1; None exactly past its end.
+    pub(crate) fn task_at(&self, band: u32, i: u32) -> Option<u32>
+        requires band { band ≤ 1 }
+        ensures at { result ≡ option_map (λ c. c.body.task_no) (slice_get (ready_list band self.now.lists) i) }
+    {
+        let list = if band == 0 { &self.first } else { &self.second };
+        list.get(i as usize).map(|context| context.body().task_no())
     }
 
     /// The context of a task, by its number; None exactly where it isn't ready.
