@@ -5,3 +5,4 @@ pub mod Listing
 pub mod Explanations
 pub mod Report
 pub mod VerdictText
+pub mod VerdictTwoText

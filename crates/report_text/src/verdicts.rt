@@ -18,7 +18,7 @@ fn add_place(step: u32, latch: Latch, out: &mut Vec<u8>) -> Result<(), AllocErro
 }
 
 /// Appends two secrets.
-fn add_secrets(a: u32, b: u32, out: &mut Vec<u8>) -> Result<(), AllocError>
+pub(crate) fn add_secrets(a: u32, b: u32, out: &mut Vec<u8>) -> Result<(), AllocError>
     ensures ok { OnOk result (out.new.items ≡ out.old.items ++ secrets_text a b) }
 {
     add_count(b" secrets ", u64::from(a), out)?;
@@ -35,7 +35,7 @@ fn add_pair(pair: (u32, u32), out: &mut Vec<u8>) -> Result<(), AllocError>
 }
 
 /// Appends how many worlds have a change.
-fn add_counts(a: u32, b: u32, out: &mut Vec<u8>) -> Result<(), AllocError>
+pub(crate) fn add_counts(a: u32, b: u32, out: &mut Vec<u8>) -> Result<(), AllocError>
     ensures ok { OnOk result (out.new.items ≡ out.old.items ++ counts_text a b) }
 {
     add_count(b" counts ", u64::from(a), out)?;
@@ -43,7 +43,7 @@ fn add_counts(a: u32, b: u32, out: &mut Vec<u8>) -> Result<(), AllocError>
 }
 
 /// Appends a verdict.
-fn add_verdict(verdict: &Verdict, out: &mut Vec<u8>) -> Result<(), AllocError>
+pub(crate) fn add_verdict(verdict: &Verdict, out: &mut Vec<u8>) -> Result<(), AllocError>
     ensures ok { OnOk result (out.new.items ≡ out.old.items ++ verdict_text_of verdict.now) }
 {
     match verdict {
@@ -87,7 +87,7 @@ fn add_worlds(a: u32, b: u32, out: &mut Vec<u8>) -> Result<(), AllocError>
 }
 
 /// Appends a fault.
-fn add_fault(fault: &CertFault, out: &mut Vec<u8>) -> Result<(), AllocError>
+pub(crate) fn add_fault(fault: &CertFault, out: &mut Vec<u8>) -> Result<(), AllocError>
     ensures ok { OnOk result (out.new.items ≡ out.old.items ++ cert_fault_text_of fault.now) }
 {
     match fault {
