@@ -25,12 +25,12 @@ get-append (x ∷ xs) ys z (suc i) is = go (get-append xs ys z i is)
     go (inl there) = inl there
     go (inr (j, at, there)) = inr (j, omega (arith, at), there)
 
-get-left : {X : Type 0} (xs ys : List X) (z : X) (i : ℕ) → slice_get xs i ≡ Some z → slice_get (xs ++ ys) i ≡ Some z
+pub get-left : {X : Type 0} (xs ys : List X) (z : X) (i : ℕ) → slice_get xs i ≡ Some z → slice_get (xs ++ ys) i ≡ Some z
 get-left [] ys z i is = absurd cc
 get-left (x ∷ xs) ys z zero is = is
 get-left (x ∷ xs) ys z (suc i) is = get-left xs ys z i is
 
-get-right : {X : Type 0} (xs ys : List X) (z : X) (j : ℕ) → slice_get ys j ≡ Some z → slice_get (xs ++ ys) (length xs + j) ≡ Some z
+pub get-right : {X : Type 0} (xs ys : List X) (z : X) (j : ℕ) → slice_get ys j ≡ Some z → slice_get (xs ++ ys) (length xs + j) ≡ Some z
 get-right [] ys z j is = let e : 0 + j ≡ j = omega arith in ap (λ k. slice_get ys k) e ∙ is
 get-right (x ∷ xs) ys z j is =
     let e : suc (length xs) + j ≡ suc (length xs + j) = omega arith in ap (λ k. slice_get (x ∷ (xs ++ ys)) k) e ∙ get-right xs ys z j is

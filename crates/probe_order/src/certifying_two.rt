@@ -57,20 +57,15 @@ fn leak_of(groups: &[Group], places: &[Place], pair: &Pair) -> VerdictTwo
     }
 }
 
-/// The verdict by two probes where one tells nothing: so many worlds were surveyed, with so many latch writes each.
-fn by_two(
-    alloc: Global,
-    survey: &Survey,
-    worlds: usize,
-    places: u64,
-) -> Result<VerdictTwo, TwoFault>
+/// The verdict by two probes where one tells nothing, with so many latch writes in each world.
+fn by_two(alloc: Global, survey: &Survey, places: u64) -> Result<VerdictTwo, TwoFault>
     requires fits { IsFitting survey.now }
-    requires few { worlds ≤ max_worlds }
+    requires few { length survey.now.rows ≤ max_worlds }
     requires places { places ≤ 700000 }
-    ensures certified { (T : Task) (them : List World) → IsWorldsOf T them → length them ≡ worlds → IsSurveyOf T them survey.now
-        → IsSecureAt T them places → IsCertifiedTwo T them result }
+    ensures certified { (T : Task) (worlds : List World) → IsWorldsOf T worlds → IsSurveyOf T worlds survey.now → IsSecureAt T worlds places
+        → IsCertifiedTwo T worlds result }
 {
-    let product = worlds as u64 * places * places;
+    let product = survey.rows.len() as u64 * places * places;
     if product > 50_000_000 {
         return Err(TwoFault::TooMany { product });
     }
@@ -104,7 +99,7 @@ pub fn certify_two(alloc: Global, task: &Task, worlds: &[World]) -> Result<Verdi
     };
     let verdict = verdict_of(alloc, &survey)?;
     match verdict {
-        Verdict::Secure { places } => by_two(alloc, &survey, worlds.len(), places),
+        Verdict::Secure { places } => by_two(alloc, &survey, places),
         Verdict::Leak { .. } => Ok(VerdictTwo::One(verdict)),
     }
 }

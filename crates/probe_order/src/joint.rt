@@ -1,9 +1,9 @@
 //! What the rows of all worlds have in two places together, group by group.
 
-ghost use Rattle.std.specs.Prelude.{◌≡◌, ◌<◌, ◌^◌, All, IfOk, IsPermutation, OnOk, IfSome, IfNone, Some, length, ℕ};
+ghost use Rattle.std.specs.Prelude.{◌≡◌, ◌<◌, ◌^◌, All, IfOk, IsPermutation, OnOk, IfSome, IfNone, Some, length, ℕ, true};
 ghost use Rattle.std.specs.List.Sorted.{IsSorted};
 ghost use Rattle.probe_inspect.specs.Columns.{change_in, AreLonger, AreGroupsOf};
-ghost use Rattle.probe_order.specs.Joint.{joint_cmp, joints_of, count_joint, IsJointDifferenceOf, IsJointFoundAt};
+ghost use Rattle.probe_order.specs.Joint.{joint_cmp, joints_of, count_joint, IsJointDifferenceOf, AreBothAlikeAt, IsJointFoundAt};
 
 use count_differences::least_difference;
 use probe_inspect::{Group, Row};
@@ -23,7 +23,7 @@ pub(crate) struct JointDifference {
 }
 
 /// The change at a place of a row.
-fn change_of(row: &Row, at: usize) -> (u32, u32)
+pub(crate) fn change_of(row: &Row, at: usize) -> (u32, u32)
     requires was { at < length row.now.was }
     requires now { at < length row.now.now }
     ensures change { result ≡ change_in at (Some row.entry.now) }
@@ -89,7 +89,7 @@ fn compare(first: &[Joint], other: &[Joint], secret: u32) -> Option<JointDiffere
 }
 
 /// The first group that differs from the first one in two places together.
-pub(crate) fn joint_difference_at(
+fn joint_difference_at(
     alloc: Global,
     groups: &[Group],
     rows: &[Row],
@@ -113,4 +113,25 @@ pub(crate) fn joint_difference_at(
         }
     }
     Ok(None)
+}
+
+/// The first group that differs from the first one in two places together, where it isn't known already that they are alike.
+pub(crate) fn difference_unless(
+    alike: bool,
+    alloc: Global,
+    groups: &[Group],
+    rows: &[Row],
+    p: usize,
+    q: usize,
+) -> Result<Option<JointDifference>, AllocError>
+    requires groups { AreGroupsOf groups.now rows.now }
+    requires first { AreLonger p rows.now }
+    requires second { AreLonger q rows.now }
+    requires alike { alike ≡ true → AreBothAlikeAt groups.now rows.now p q }
+    ensures found { IfOk result (IsJointFoundAt groups.now rows.now p q) }
+{
+    if alike {
+        return Ok(None);
+    }
+    joint_difference_at(alloc, groups, rows, p, q)
 }
