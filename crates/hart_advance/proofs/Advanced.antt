@@ -13,9 +13,11 @@ use Rattle.core_model.specs.declared.event.Event.{Event}
 use Rattle.core_model.specs.declared.plan.Plan.{Plan}
 use Rattle.core_model.specs.Routines.{ticked_if}
 use Rattle.core_model.specs.Orders.{HartPace, is_tick_due, events_of_step, max_steps}
+use Rattle.symbolic_run.proofs.Paths.{paths-lead}
+use Rattle.symbolic_run.proofs.StepsTaken.{steps-taken}
 use Rattle.core_invariant.specs.CutPoints.{IsOnItsWay}
 use Rattle.core_invariant.specs.OneHart.{EachHart}
-use Rattle.core_invariant.proofs.Proved.{kernel-harts}
+use Rattle.core_invariant.proofs.EachHart.{each-hart}
 use Rattle.timer_plan.specs.Pace.{PaceState}
 use Rattle.order_laws.specs.OwnSteps.{AtAction, own_steps, own_by, after_own}
 use Rattle.hart_advance.specs.Pacing.{IsPaceOf, IsUnderKernel, due_hart, paced_step}
@@ -60,7 +62,7 @@ pub record Stepped (code : List ℕ) (h : HartState) (pace : PaceState) (did : D
 -- THE KERNEL: a step keeps the hart on its way
 module _ (code : List ℕ) (h : HartState) (under : IsUnderKernel code h) where
   one : EachHart under.loaded.tasks under.kernel
-  one = kernel-harts under.kernel under.is_kernel under.loaded under.is_loaded
+  one = each-hart under.kernel under.is_kernel (paths-lead steps-taken) under.loaded.tasks
 
   ticks-way : (b : Bool) → IsOnItsWay under.loaded.tasks under.kernel under.number (ticked_if b h)
   ticks-way true = one.ticks under.number h under.way
@@ -71,7 +73,7 @@ module _ (code : List ℕ) (h : HartState) (under : IsUnderKernel code h) where
     loaded = under.loaded;
     kernel = under.kernel;
     number = under.number;
-    is_loaded = under.is_loaded;
+    within = under.within;
     is_kernel = under.is_kernel;
     words = under.words;
     way = by-step (hart_step code (ticked_if b h)) refl;

@@ -53,7 +53,7 @@ can-advance k kernel loaded fits co kept number s share goes_on pace is room eno
         loaded = loaded;
         kernel = k;
         number = number;
-        is_loaded = fits;
+        within = fits.limits;
         is_kernel = kernel;
         words = refl;
         way = kept.core.harts number s.hart share.hart;

@@ -1,5 +1,6 @@
 -- A step under a plan, as code makes it and as the definition does.
 use Rattle.std.proofs.Common.{◌≡◌, ◌≢◌, ℕ, ◌==◌, Bool, true, false, List, slice_get, Option, Some, None, refl, sym, ap, ◌∙◌, subst, arith}
+use Rattle.std.proofs.lemmas.Option.{slice_get_within, get_or_from_slice_get}
 use Rattle.isa_model.specs.declared.task.Task.{Task}
 use Rattle.isa_model.specs.TaskPlaces.{IsValidTask}
 use Rattle.hart_model.specs.Context.{ContextState}
@@ -10,13 +11,14 @@ use Rattle.hart_state.specs.UserDeed.{CanCount}
 use Rattle.core_model.specs.declared.plan.Plan.{Plan}
 use Rattle.core_model.specs.Routines.{ticked_if}
 use Rattle.core_model.specs.Orders.{HartPace, held_count}
+use Rattle.symbolic_run.proofs.Paths.{paths-lead}
+use Rattle.symbolic_run.proofs.StepsTaken.{steps-taken}
 use Rattle.core_invariant.specs.KernelStates.{KernelParts}
 use Rattle.core_invariant.specs.CutPoints.{IsOnItsWay}
 use Rattle.core_invariant.specs.Invariant.{HeldCountFits}
 use Rattle.core_invariant.specs.OneHart.{EachHart}
-use Rattle.core_invariant.proofs.Boot.{each_valid}
 use Rattle.core_invariant.proofs.CountFits.{count-fits}
-use Rattle.core_invariant.proofs.Proved.{kernel-harts}
+use Rattle.core_invariant.proofs.EachHart.{each-hart}
 use Rattle.timer_plan.specs.Pace.{PaceState}
 use Rattle.hart_advance.specs.Pacing.{IsPaceOf, IsUnderKernel, due_hart, is_quantum_over, counted}
 use Rattle.hart_advance.proofs.Pacing.{CountsBy, tick-same, step-counts, pace-after, ran-may}
@@ -30,7 +32,7 @@ module _ (code : List ℕ) (h : HartState) (v : PaceState) (under : IsUnderKerne
   k = under.kernel
 
   one : EachHart under.loaded.tasks k
-  one = kernel-harts k under.is_kernel under.loaded under.is_loaded
+  one = each-hart k under.is_kernel (paths-lead steps-taken) under.loaded.tasks
 
   abbrev pub ticked : HartState
   ticked = ticked_if (is_quantum_over h v) h
@@ -40,7 +42,9 @@ module _ (code : List ℕ) (h : HartState) (v : PaceState) (under : IsUnderKerne
   ticks-way false = under.way
 
   valid : (t : ℕ) (task : Task) → slice_get under.loaded.tasks t ≡ Some task → IsValidTask task
-  valid t task is = (each_valid k under.loaded under.is_loaded one t task is).1
+  valid t task is =
+      let low = slice_get_within under.loaded.tasks t task is in
+      subst IsValidTask (get_or_from_slice_get under.loaded.tasks t task task is) (under.within.tasks t task low).valid
 
   -- the count has room
   pub can-count : CanCount ticked.held

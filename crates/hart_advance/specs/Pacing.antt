@@ -7,7 +7,7 @@ use Rattle.hart_model.specs.UserStep.{is_fuel_used}
 use Rattle.hart_model.specs.HartStep.{hart_step}
 use Rattle.core_model.specs.declared.plan.Plan.{Plan}
 use Rattle.core_model.specs.declared.loaded.Loaded.{Loaded}
-use Rattle.core_model.specs.Loaded.{IsLoaded}
+use Rattle.core_model.specs.Loaded.{IsWithinLimits}
 use Rattle.core_model.specs.Routines.{ticked_if}
 use Rattle.core_model.specs.Orders.{HartPace, is_tick_due, is_user}
 use Rattle.core_invariant.specs.KernelStates.{KernelParts, IsKernel}
@@ -28,12 +28,12 @@ due_hart plan progress h = ticked_if (is_tick_due plan progress h) h
 abbrev pub paced_step : List ℕ → Plan → HartPace → HartState → StepResult
 paced_step code plan progress h = hart_step code (due_hart plan progress h)
 
--- A hart of some loaded bundle, somewhere on its way under a kernel that has this code.
+-- A hart of some bundle within the limits, somewhere on its way under a kernel that has this code.
 pub record IsUnderKernel (code : List ℕ) (h : HartState) : Type 0 where
   pub loaded : Loaded
   pub kernel : KernelParts
   pub number : ℕ
-  pub is_loaded : IsLoaded loaded
+  pub within : IsWithinLimits loaded
   pub is_kernel : IsKernel kernel
   pub words : code ≡ kernel.code.words
   pub way : IsOnItsWay loaded.tasks kernel number h

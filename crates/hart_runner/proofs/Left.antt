@@ -19,7 +19,8 @@ use Rattle.order_laws.proofs.WholeShares.{shares-whole}
 use Rattle.order_laws.proofs.LegalOrders.{legal-orders}
 use Rattle.kernel_core.specs.declared.snapshot.TaskState.{TaskState}
 use Rattle.kernel_core.specs.declared.snapshot.Snapshot.{Snapshot}
-use Rattle.kernel_core.specs.SnapshotNow.{core_of_parts, snapshot_from}
+use Rattle.resume_laws.specs.Parts.{core_of_parts}
+use Rattle.kernel_core.specs.SnapshotNow.{snapshot_from}
 use Rattle.kernel_core.specs.Snapshots.{states_from, snapshot_of}
 use Rattle.kernel_core.proofs.Reported.{states-same}
 use Rattle.hart_runner.specs.declared.receipt.Receipt.{Receipt}

@@ -20,7 +20,7 @@ use Rattle.ended_laws.specs.Ending.{HaveAllStopped, IsOver}
 use Rattle.ended_laws.proofs.Quiet.{home-is-end, stopped-over}
 use Rattle.ended_laws.proofs.Stopping.{empty-stops}
 use Rattle.kernel_core.specs.declared.snapshot.TaskState.{TaskState}
-use Rattle.kernel_core.specs.SnapshotNow.{core_of_parts}
+use Rattle.resume_laws.specs.Parts.{core_of_parts}
 use Rattle.kernel_core.proofs.Reported.{states-same}
 use Rattle.kernel_core.specs.Snapshots.{state_of_done, state_at, state_of, states_from}
 use Rattle.hart_runner.specs.declared.receipt.Receipt.{Receipt}

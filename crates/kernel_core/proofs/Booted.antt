@@ -12,11 +12,13 @@ use Rattle.kernel_core.specs.History.{CoreValue, IsCoreOf, history_at_boot}
 use Rattle.core_model.specs.declared.loaded.Loaded.{Loaded}
 use Rattle.core_model.specs.Board.{BoardState, BoardWithSpare, boot_board}
 use Rattle.core_model.specs.Loaded.{IsLoaded}
+use Rattle.core_model.proofs.BandsInOrder.{bands-go-in-order}
 use Rattle.core_invariant.specs.KernelStates.{KernelParts, IsKernel}
 use Rattle.core_invariant.specs.Invariant.{IsCoreKept}
 use Rattle.core_invariant.proofs.Boot.{each_valid, boot-kept}
 use Rattle.core_invariant.proofs.Proved.{kernel-harts}
 use Rattle.context_slot.specs.Fresh.{IsFresh}
+use Rattle.resume_laws.proofs.Rests.{rest-from-boot}
 use Rattle.kernel_core.specs.Kernels.{IsWholeKernel}
 use Rattle.kernel_core.specs.Running.{IsRunKept, beyond}
 use Rattle.ready_queue.specs.Bodies.{AreFreshFrom}
@@ -81,7 +83,7 @@ module _ (loaded : Loaded) (is : IsLoaded loaded) where
       → board.lists ≡ boot_board loaded.slots (bodies_from 0 loaded.tasks) loaded.bands → harts ≡ harts_from 0 loaded.harts k.code.take → actions + beyond ≤ board.spare
       → IsRunKept loaded (record { board = board; harts = harts; kernel = k; actions = actions })
   run-kept k kernel board harts actions lists same room = record {
-    is_loaded = is;
+    within = is.limits;
     is_kernel = kernel;
     kept = (
         let B : BoardState → Type 0 = λ b. IsCoreKept k loaded (record { board = b; harts = harts; log = [] }) in
@@ -96,4 +98,16 @@ pub told-boot : {K : Type 0} (loaded : Loaded) (k : KernelParts) (c : CoreValue 
     → IsCoreOf (history_at_boot loaded k) c
 unfolding core_from
 told-boot loaded k c is_loaded is_kernel kernel tasks board harts counts =
-    record { is_loaded = is_loaded; is_kernel = is_kernel; kernel = kernel; tasks = tasks; board = board; harts = harts; counts = counts }
+    let one = kernel-harts k is_kernel.kernel loaded is_loaded in
+    record {
+      within = is_loaded.limits;
+      is_kernel = is_kernel;
+      start = boot-kept k loaded is_loaded one;
+      rests = rest-from-boot k is_kernel.kernel loaded one is_loaded [];
+      bands = record { same = refl; lists = bands-go-in-order.boot loaded.slots (bodies_from 0 loaded.tasks) loaded.bands };
+      kernel = kernel;
+      tasks = tasks;
+      board = board;
+      harts = harts;
+      counts = counts;
+    }

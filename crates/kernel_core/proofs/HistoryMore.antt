@@ -1,15 +1,17 @@
 -- A core that is told one event more.
-use Rattle.std.proofs.Common.{◌≡◌, ℕ, List, [], ◌++◌, slice_get, Option, Some, None, refl, sym, ap, subst, ◌∙◌, append-nil}
+use Rattle.std.proofs.Common.{◌≡◌, ℕ, List, [], ◌++◌, length, slice_get, Option, Some, None, refl, sym, ap, subst, ◌∙◌, append-nil}
 use Rattle.hart_model.specs.declared.probe.Probe.{Probe}
 use Rattle.hart_model.specs.HartState.{HartState}
 use Rattle.core_model.specs.declared.event.Event.{Event}
 use Rattle.core_model.specs.declared.event.Event.TheVariants.{Go, Tick}
 use Rattle.core_model.specs.Board.{BoardState}
-use Rattle.core_model.specs.Loaded.{IsLoaded}
 use Rattle.core_model.specs.Core.{CoreState, CoreAndAction, event_result, after_event, after_go, after_tick, without_action}
+use Rattle.core_invariant.specs.Invariant.{IsCoreKept}
 use Rattle.core_invariant.proofs.Events.{core-more}
-use Rattle.core_invariant.proofs.FromHarts.{stays-sound, outputs-stay, one-home-each, none-wedges}
-use Rattle.core_invariant.proofs.Proved.{kernel-harts}
+use Rattle.core_invariant.proofs.Composition.{kept-sound, events-kept}
+use Rattle.core_invariant.proofs.CoreOutputs.{outputs-sound}
+use Rattle.core_invariant.proofs.OneHome.{exact-homes}
+use Rattle.order_laws.proofs.LegalOrders.{one}
 use Rattle.probe_log.specs.Counts.{StandFor}
 use Rattle.kernel_core.specs.Kernels.{IsWholeKernel}
 use Rattle.kernel_core.specs.Running.{IsAfterEvent, core_of_run, event_on, entries_of}
@@ -73,8 +75,11 @@ module _ {K : Type 0} (t : History) (event : Event) (c after : CoreValue K) (is 
       let H : CoreState → List HartState = λ x. x.harts in
       let L : List Probe → Type 0 = λ log. StandFor after.log.tally log in
       record {
-        is_loaded = is.is_loaded;
+        within = is.within;
         is_kernel = is.is_kernel;
+        start = is.start;
+        rests = is.rests;
+        bands = is.bands;
         kernel = run.kernel ∙ is.kernel;
         tasks = tasks ∙ is.tasks;
         board = run.board ∙ sym (ap (λ (x : CoreAndAction). x.core.board) event-is) ∙ sym same.board ∙ sym (ap B next-core);
@@ -82,11 +87,18 @@ module _ {K : Type 0} (t : History) (event : Event) (c after : CoreValue K) (is 
         counts = subst L entries-told (logs (core_of t).log is.counts);
       }
 
--- It is sound, whatever it was told.
-pub sound-so : (t : History) → IsLoaded t.loaded → IsWholeKernel t.kernel → IsSoundCore t
-sound-so t is_loaded is_kernel = record {
-  sound = stays-sound kernel-harts t.kernel is_kernel.kernel t.loaded is_loaded t.events;
-  homes = one-home-each kernel-harts t.kernel is_kernel.kernel t.loaded is_loaded t.events;
-  outputs = outputs-stay kernel-harts t.kernel is_kernel.kernel t.loaded is_loaded t.events;
-  unwedged = none-wedges kernel-harts t.kernel is_kernel.kernel t.loaded is_loaded t.events;
-}
+-- It is kept, whatever it was told.
+pub kept-so : (t : History) → IsWholeKernel t.kernel → IsCoreKept t.kernel t.loaded t.start → IsCoreKept t.kernel t.loaded (core_of t)
+kept-so t is_kernel start = events-kept t.kernel t.loaded (one t.kernel is_kernel.kernel t.loaded) t.start start t.events
+
+-- So it is sound.
+pub sound-so : (t : History) → IsWholeKernel t.kernel → IsCoreKept t.kernel t.loaded t.start → IsSoundCore t
+sound-so t is_kernel start =
+    let each = one t.kernel is_kernel.kernel t.loaded in
+    let kept = kept-so t is_kernel start in
+    record {
+      sound = kept-sound t.kernel t.loaded each (core_of t) kept;
+      homes = exact-homes (length t.loaded.tasks) (core_of t).board kept.homes;
+      outputs = outputs-sound t.kernel t.loaded (core_of t) kept;
+      unwedged = λ i h is. each.never_wedged i h (kept.harts i h is);
+    }

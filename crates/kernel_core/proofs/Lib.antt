@@ -14,4 +14,5 @@ pub mod PacedSteps
 pub mod ToAction
 pub mod Counting
 pub mod Booted
+pub mod Parting
 pub mod Reported

@@ -9,6 +9,7 @@ use Rattle.core_invariant.specs.KernelStates.{KernelParts}
 use Rattle.order_laws.specs.CoarseRuns.{coarse_from, coarse_state}
 use Rattle.order_laws.specs.SteppedRuns.{next_steps}
 use Rattle.order_laws.proofs.AsEvents.{coarse-states, coarse-append}
+use Rattle.kernel_core.specs.History.{history_at_boot}
 use Rattle.kernel_core.specs.PacedHistory.{PacedHistory, next_steps_of, with_steps, acted, ordered, paced_at_boot}
 use Rattle.kernel_core.specs.Laws.{OrdersGrow}
 
@@ -66,7 +67,7 @@ module _ (loaded : Loaded) (kernel : KernelParts) (order : List ℕ) (hart : ℕ
   pub order-grows : acted (ordered loaded kernel order) hart ≡ ordered loaded kernel (order ++ hart ∷ [])
   order-grows =
       let P : List Event → List HartPace → PacedHistory =
-      λ es ps. record { history = record { loaded = loaded; kernel = kernel; events = es }; paces = ps } in
+      λ es ps. record (paced_at_boot loaded kernel) { history = record (history_at_boot loaded kernel) { events = es }; paces = ps } in
       ap (with_steps (ordered loaded kernel order) hart) same-steps
       ∙ ap (λ es. P es (after_entry code loaded.plans co hart).paces) (sym events-so)
       ∙ ap (λ ps. P (fine_from code loaded.plans (boot_coarse loaded kernel.code) (order ++ hart ∷ [])) ps) (sym paces-so)

@@ -35,7 +35,7 @@ module _ (r : RunValue) (number : ℕ) (h : HartState) (is : slice_get r.harts n
     loaded = loaded;
     kernel = r.kernel;
     number = number;
-    is_loaded = run.is_loaded;
+    within = run.within;
     is_kernel = run.is_kernel;
     words = refl;
     way = run.kept.harts number h is;

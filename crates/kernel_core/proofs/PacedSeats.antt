@@ -15,17 +15,18 @@ use Rattle.core_model.specs.Orders.{HartPace, CoarseState, boot_pace, boot_coars
 use Rattle.core_model.proofs.Lists.{get-set, some-is}
 use Rattle.core_invariant.specs.KernelStates.{KernelParts}
 use Rattle.core_invariant.proofs.Items.{get-set_other}
-use Rattle.core_invariant.proofs.Boot.{core-kept, boot-hart, length-harts}
-use Rattle.core_invariant.proofs.Proved.{kernel-harts}
+use Rattle.core_invariant.proofs.Boot.{boot-hart, length-harts}
 use Rattle.probe_log.specs.Counts.{StandFor}
 use Rattle.timer_plan.specs.Pace.{PaceState}
 use Rattle.hart_advance.proofs.CanAdvance.{paces-follow}
 use Rattle.order_laws.specs.SteppedRuns.{stepped_from, AreLegalSteps}
+use Rattle.order_laws.proofs.LegalOrders.{boots}
 use Rattle.kernel_core.specs.Running.{IsAfterEvent, event_on, entries_of}
 use Rattle.kernel_core.specs.PacedRun.{IsPaceIn, ticked_run}
 use Rattle.kernel_core.specs.Seats.{SeatValue, IsSeatOf, boot_seat, stopped_by}
 use Rattle.kernel_core.specs.History.{CoreValue, IsCoreOf, history_at_boot}
-use Rattle.kernel_core.specs.PacedHistory.{PacedHistory, coarse_of, next_steps_of, next_entries_of, stepped, paced_at_boot, IsPacedCoreOf, stopped_seat, has_stopped_at}
+use Rattle.kernel_core.specs.PacedHistory.{PacedHistory, start_of, coarse_of, next_steps_of, next_entries_of, stepped, paced_at_boot, IsPacedCoreOf, stopped_seat, has_stopped_at}
+use Rattle.kernel_core.proofs.HistoryMore.{kept-so}
 use Rattle.kernel_core.proofs.SteppedMore.{paces-stay}
 use Rattle.kernel_core.proofs.RunAfter.{index-is}
 use Rattle.kernel_core.proofs.PacedRunAfter.{harts-of-paced}
@@ -64,7 +65,7 @@ module _ {K : Type 0} (loaded : Loaded) (kernel : KernelParts) (is_loaded : IsLo
   unfolding stepped_from AreLegalSteps core_from
   paced-boot = record {
     core = core;
-    steps = record { steps = []; legal = tt; is = refl };
+    steps = record { begins = boots kernel core.is_kernel.kernel loaded is_loaded; steps = []; legal = tt; is = refl };
     is_paced = is_paced;
     seat_count = ap length seats ∙ length-map loaded.plans boot_seat ∙ is_loaded.limits.plan_each
         ∙ sym (ap length harts ∙ length-harts 0 loaded.harts kernel.code.take);
@@ -75,15 +76,13 @@ module _ {K : Type 0} (loaded : Loaded) (kernel : KernelParts) (is_loaded : IsLo
 module _ {K : Type 0} (t : PacedHistory) (c : CoreValue K) (is : IsPacedCoreOf t c) where
   pub hart-count : length c.run.harts ≡ t.history.loaded.harts
   hart-count =
-      ap length is.core.harts
-      ∙ (core-kept t.history.kernel t.history.loaded is.core.is_loaded
-      (kernel-harts t.history.kernel is.core.is_kernel.kernel t.history.loaded is.core.is_loaded) t.history.events).hart_count
+      ap length is.core.harts ∙ (kept-so t.history is.core.is_kernel is.core.start).hart_count
 
   pace-count : length t.paces ≡ t.history.loaded.harts
   pace-count =
       ap (λ (co : CoarseState). length co.paces) is.steps.is
-      ∙ paces-stay t.history.kernel.code.words t.history.loaded.plans (boot_coarse t.history.loaded t.history.kernel.code) is.steps.steps
-      ∙ length-replicate t.history.loaded.harts boot_pace
+      ∙ paces-stay t.history.kernel.code.words t.history.loaded.plans (start_of t) is.steps.steps
+      ∙ is.steps.begins.paces
 
   -- the seat of a hart that hasn't found nothing
   module _ (hart : ℕ) (low : hart < length c.run.harts) (goes_on : has_stopped_at c hart ≡ false) where
@@ -233,9 +232,7 @@ module _ {K : Type 0} (t : PacedHistory) (hart : ℕ) (c after : CoreValue K) (a
         let count = hart-count t c is in
         let old = is.seat_count in
         let new : length after.seats ≡ length c.seats = ap length gone.seats ∙ length-set c.seats hart _ in
-        let next = ap length core.harts
-        ∙ (core-kept t.history.kernel t.history.loaded is.core.is_loaded
-        (kernel-harts t.history.kernel is.core.is_kernel.kernel t.history.loaded is.core.is_loaded) (stepped t hart).history.events).hart_count in
+        let next = ap length core.harts ∙ (kept-so (stepped t hart).history is.core.is_kernel is.core.start).hart_count in
         omega (arith, count, old, new, next));
     seats = seat-then;
   }

@@ -7,14 +7,13 @@ use Rattle.core_model.specs.declared.action.Action.{Action}
 use Rattle.core_model.specs.declared.event.Event.{Event}
 use Rattle.core_model.specs.declared.plan.Plan.{Plan}
 use Rattle.core_model.specs.Core.{CoreState, CoreAndAction, event_result}
-use Rattle.core_model.specs.Orders.{HartPace, CoarseState, StepsToAction, boot_pace, plan_at, result_of, then_steps, unless_action, steps_to_action, count_on, pace_after, IsLegalEntry, boot_coarse}
+use Rattle.core_model.specs.Orders.{HartPace, CoarseState, StepsToAction, boot_pace, plan_at, result_of, then_steps, unless_action, steps_to_action, count_on, pace_after, IsLegalEntry}
 use Rattle.core_invariant.proofs.Events.{core-append}
-use Rattle.core_model.specs.Core.{boot_core}
 use Rattle.order_laws.specs.SteppedRuns.{next_steps, after_one}
 use Rattle.order_laws.proofs.AsEvents.{steps-core}
 use Rattle.order_laws.proofs.OneStep.{step_events, step_result, one-step, one-acts, one-goes-on, paces-then, pace-then}
 use Rattle.kernel_core.specs.History.{core_of}
-use Rattle.kernel_core.specs.PacedHistory.{PacedHistory, coarse_of, next_steps_of, next_entries_of, with_steps, stepped, IsPacedHistory}
+use Rattle.kernel_core.specs.PacedHistory.{PacedHistory, start_of, coarse_of, next_steps_of, next_entries_of, with_steps, stepped, IsPacedHistory}
 use Rattle.kernel_core.specs.Laws.{EntriesAreSteps, ToldIsStepped}
 use Rattle.kernel_core.proofs.HistoryMore.{event-same}
 use Rattle.kernel_core.proofs.SteppedMore.{legal-more, stepped-more}
@@ -77,7 +76,7 @@ module _ (t : PacedHistory) (hart : ℕ) where
   -- the core that was told steps
   pub core-told : (most : ℕ) → core_of (with_steps t hart (next_steps_of t hart most)).history ≡ (next_steps_of t hart most).core
   core-told most =
-      core-append code (boot_core t.history.loaded t.history.kernel.code) t.history.events (next_steps_of t hart most).events
+      core-append code t.history.start t.history.events (next_steps_of t hart most).events
       ∙ sym (steps-core code plan progress hart most c)
 
   pub log-told : (most : ℕ) → (next_steps_of t hart most).core.log ≡ (core_of t.history).log ++ next_entries_of t hart most
@@ -90,12 +89,12 @@ module _ (t : PacedHistory) (hart : ℕ) where
   pub steps-told : IsPacedHistory t → IsLegalEntry (coarse_of t) hart → IsPacedHistory (stepped t hart)
   steps-told is legal =
       let plans = t.history.loaded.plans in
-      let boot = boot_coarse t.history.loaded t.history.kernel.code in
       let L : CoarseState → Type 0 = λ co. IsLegalEntry co hart in
       record {
+        begins = is.begins;
         steps = is.steps ++ hart ∷ [];
-        legal = legal-more code plans boot is.steps hart is.legal (subst L is.is legal);
-        is = coarse-stepped ∙ ap (λ co. after_one code plans co hart) is.is ∙ sym (stepped-more code plans boot is.steps hart);
+        legal = legal-more code plans (start_of t) is.steps hart is.legal (subst L is.is legal);
+        is = coarse-stepped ∙ ap (λ co. after_one code plans co hart) is.is ∙ sym (stepped-more code plans (start_of t) is.steps hart);
       }
 
   pub last-step : (more : ℕ) (action : Action) → (next_steps_of t hart 1).action ≡ Some action
@@ -116,7 +115,7 @@ module _ (t : PacedHistory) (hart : ℕ) where
         ∙ ap (λ co. then_steps (next_steps_of t hart 1).events (next_steps code plans co hart more)) (sym coarse-stepped)
 
     abbrev told : List Event → List HartPace → PacedHistory
-    told es ps = record { history = record t.history { events = es }; paces = ps }
+    told es ps = record t { history = record t.history { events = es }; paces = ps }
 
     further-by : (S : StepsToAction) → with_steps t hart (then_steps (next_steps_of t hart 1).events S) ≡ with_steps (stepped t hart) hart S
     further-by S =

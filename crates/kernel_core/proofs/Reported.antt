@@ -48,4 +48,4 @@ snapshot-told t c is =
 pub few-harts : (r : RunValue) (loaded : Loaded) → IsRunKept loaded r → length r.harts < 2 ^ 32
 few-harts r loaded run =
     let same = run.kept.hart_count in
-    let few = run.is_loaded.limits.harts_high in omega (arith, same, few)
+    let few = run.within.harts_high in omega (arith, same, few)

@@ -20,13 +20,12 @@ use Rattle.ready_queue.specs.declared.kind.Kind.TheVariants.{Ready, Done}
 use Rattle.ready_queue.specs.Gives.{HasNothingOut}
 use Rattle.core_invariant.specs.KernelStates.{KernelParts, IsKernel}
 use Rattle.core_invariant.specs.Invariant.{IsCoreKept, HeldCountFits}
-use Rattle.core_invariant.specs.OneHart.{EachHart}
-use Rattle.core_invariant.proofs.Proved.{kernel-harts}
 use Rattle.core_invariant.proofs.CountFits.{count-fits}
 use Rattle.core_invariant.proofs.Actions.{may-take, may-give-ready, may-give-done}
 use Rattle.core_invariant.proofs.OutFits.{out-fits}
-use Rattle.core_invariant.proofs.Boot.{each_valid}
 use Rattle.core_invariant.proofs.Composition.{event-kept}
+use Rattle.order_laws.proofs.LegalOrders.{one}
+use Rattle.resume_laws.proofs.MadeOfParts.{valid-task}
 use Rattle.kernel_core.specs.BoardStep.{GivesKind, MayGive, CanGo}
 use Rattle.kernel_core.specs.Running.{RunValue, IsRunKept, IsAfterEvent, core_of_run, event_on}
 
@@ -35,11 +34,8 @@ count_fits None fits = tt
 count_fits (Some c) fits = omega (arith, fits)
 
 module _ (r : RunValue) (loaded : Loaded) (run : IsRunKept loaded r) (number : ℕ) (h : HartState) (is : slice_get r.harts number ≡ Some h) where
-  one : EachHart loaded.tasks r.kernel
-  one = kernel-harts r.kernel run.is_kernel loaded run.is_loaded
-
   takes-by : (step : StepResult) → hart_step r.kernel.code.words h ≡ step → AsksTake step → HasNothingOut r.board.lists number
-  takes-by (Wants Take early_writes rd next) e asks = (may-take r.kernel loaded one (core_of_run r) run.kept number h is early_writes rd next e).1
+  takes-by (Wants Take early_writes rd next) e asks = (may-take r.kernel loaded (one r.kernel run.is_kernel loaded) (core_of_run r) run.kept number h is early_writes rd next e).1
   takes-by (Wants GiveReady early_writes rd next) e asks = absurd asks
   takes-by (Wants GiveDone early_writes rd next) e asks = absurd asks
   takes-by (Steps hart probes did) e asks = absurd asks
@@ -47,10 +43,10 @@ module _ (r : RunValue) (loaded : Loaded) (run : IsRunKept loaded r) (number : �
 
   gives-by : (kind : Kind) (step : StepResult) → hart_step r.kernel.code.words h ≡ step → GivesKind kind step → MayGive r.board.lists number h kind
   gives-by Ready (Wants GiveReady early_writes rd next) e gives =
-      let may = may-give-ready r.kernel loaded one (core_of_run r) run.kept number h is early_writes rd next e in
+      let may = may-give-ready r.kernel loaded (one r.kernel run.is_kernel loaded) (core_of_run r) run.kept number h is early_writes rd next e in
       record { context = may.context; held = may.held; is_out = may.is_out; can_be = (may.no_end, may.stands) }
   gives-by Done (Wants GiveDone early_writes rd next) e gives =
-      let may = may-give-done r.kernel loaded one (core_of_run r) run.kept number h is early_writes rd next e in
+      let may = may-give-done r.kernel loaded (one r.kernel run.is_kernel loaded) (core_of_run r) run.kept number h is early_writes rd next e in
       record { context = may.context; held = may.held; is_out = may.is_out; can_be = (may.has_end, may.scrubbed) }
   gives-by Ready (Wants Take early_writes rd next) e gives = absurd gives
   gives-by Ready (Wants GiveDone early_writes rd next) e gives = absurd gives
@@ -65,12 +61,12 @@ module _ (r : RunValue) (loaded : Loaded) (run : IsRunKept loaded r) (number : �
   pub can-go : number < length r.harts → length r.board.lists.order < r.actions → CanGo r.kernel.code.words r.board number h
   can-go there left =
       let harts = run.kept.hart_count in
-      let most = run.is_loaded.limits.harts_high in
+      let most = run.within.harts_high in
       let few = out-fits r.kernel loaded (core_of_run r) run.kept in
       let room = run.room in
       record {
         is_hart = omega (arith, there, harts, most);
-        count = count_fits h.held (count-fits r.kernel loaded.tasks number (λ t task is. (each_valid r.kernel loaded run.is_loaded one t task is).1) h (run.kept.harts number h is));
+        count = count_fits h.held (count-fits r.kernel loaded.tasks number (valid-task loaded run.within) h (run.kept.harts number h is));
         spare = omega (arith, few, most, room, left);
         takes = λ asks. takes-by (hart_step r.kernel.code.words h) refl asks;
         gives = λ kind gives. gives-by kind (hart_step r.kernel.code.words h) refl gives;
@@ -102,13 +98,12 @@ go-so r number h is = ap (after_go r.kernel.code.words (core_of_run r) number) i
 pub kept-after : (r after : RunValue) (loaded : Loaded) (event : Event) → IsRunKept loaded r → IsAfterEvent r after event
     → length after.board.lists.order + after.board.spare ≡ length r.board.lists.order + r.board.spare → IsRunKept loaded after
 kept-after r after loaded event run is room =
-    let one = kernel-harts r.kernel run.is_kernel loaded run.is_loaded in
-    let core = event-kept r.kernel loaded one (core_of_run r) run.kept event in
+    let core = event-kept r.kernel loaded (one r.kernel run.is_kernel loaded) (core_of_run r) run.kept event in
     let left = run.room in
     let same : after.actions ≡ r.actions = is.actions in
     let K : KernelParts → Type 0 = λ k. IsKernel k in
     record {
-      is_loaded = run.is_loaded;
+      within = run.within;
       is_kernel = subst K (sym is.kernel) run.is_kernel;
       kept = kept-as r after loaded event is core;
       room = omega (arith, room, left, same);

@@ -9,11 +9,11 @@ use Rattle.core_model.specs.Board.{BoardState}
 use Rattle.core_model.specs.Core.{CoreState}
 use Rattle.core_model.specs.Orders.{HartPace, CoarseState, IsLegalEntry, StepsToAction, boot_pace, plan_at, max_steps, steps_to_action}
 use Rattle.kernel_core.specs.History.{CoreValue, core_of}
-use Rattle.kernel_core.specs.PacedHistory.{PacedHistory, coarse_of, next_steps_of, next_entries_of, with_steps, stepped, IsPacedCoreOf, stopped_seat, has_stopped_at}
-use Rattle.order_laws.specs.SteppedRuns.{ComesOn}
+use Rattle.kernel_core.specs.PacedHistory.{PacedHistory, start_of, coarse_of, next_steps_of, next_entries_of, with_steps, stepped, IsPacedCoreOf, stopped_seat, has_stopped_at}
+use Rattle.order_laws.specs.SteppedRuns.{ComesOn, stepped_from}
 use Rattle.order_laws.specs.LongLogs.{is_log_above}
 use Rattle.order_laws.proofs.OneStep.{one-step, step_events, pace-then}
-use Rattle.order_laws.proofs.Stepped.{steps-come}
+use Rattle.order_laws.proofs.Stepped.{coarse-stepped, steps-kept, comes-to}
 use Rattle.kernel_core.proofs.PacedSteps.{core-told, core-then, log-told, last-step, further-steps, entries-are-steps}
 use Rattle.kernel_core.proofs.QuietSteps.{quiet-step, step-below, step-above, step-last, never-above}
 use Rattle.kernel_core.proofs.PacedSeats.{item-at, hart-count, legal-entry}
@@ -372,8 +372,10 @@ comes-on t hart c is exists goes_on =
     let L : CoarseState → Type 0 = λ co. IsLegalEntry co hart in
     let C : CoarseState → Type 0 = λ co. ComesOn k.code.words loaded.plans co hart in
     subst C (sym is.steps.is)
-    (steps-come k is.core.is_kernel.kernel loaded is.core.is_loaded is.steps.steps is.steps.legal hart
-    (subst L is.steps.is (legal-entry t c is hart exists goes_on)))
+    (comes-to k is.core.is_kernel.kernel loaded is.core.within (stepped_from k.code.words loaded.plans (start_of t) is.steps.steps)
+    (steps-kept k is.core.is_kernel.kernel loaded is.core.within is.steps.steps (start_of t)
+    (coarse-stepped k is.core.is_kernel.kernel loaded is.core.within (start_of t) is.steps.begins) is.steps.legal)
+    hart (subst L is.steps.is (legal-entry t c is hart exists goes_on)))
 
 -- Where there is room for 30,000 entries the log is never too long.
 pub has-room : (t : PacedHistory) (hart room : ℕ) → 30000 ≤ room

@@ -6,6 +6,7 @@ pub mod BoardStep
 pub mod Seats
 pub mod History
 pub mod PacedHistory
+pub mod Parts
 pub mod Snapshots
 pub mod SnapshotNow
 pub mod Laws

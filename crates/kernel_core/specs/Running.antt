@@ -6,7 +6,7 @@ use Rattle.core_model.specs.declared.event.Event.{Event}
 use Rattle.core_model.specs.declared.loaded.Loaded.{Loaded}
 use Rattle.core_model.specs.Board.{BoardWithSpare}
 use Rattle.core_model.specs.Core.{CoreState, CoreAndAction, event_result}
-use Rattle.core_model.specs.Loaded.{IsLoaded}
+use Rattle.core_model.specs.Loaded.{IsWithinLimits}
 use Rattle.core_invariant.specs.KernelStates.{KernelParts, IsKernel}
 use Rattle.core_invariant.specs.Invariant.{IsCoreKept}
 
@@ -32,9 +32,9 @@ entries_of r event = (event_on r event).core.log
 abbrev pub beyond : ℕ
 beyond = 10
 
--- It is a core of a loaded bundle, as every event keeps it, and its order has room for the actions that are left.
+-- It is a core of a bundle within the limits, as every event keeps it, and its order has room for the actions that are left.
 pub record IsRunKept (loaded : Loaded) (r : RunValue) : Type 0 where
-  pub is_loaded : IsLoaded loaded
+  pub within : IsWithinLimits loaded
   pub is_kernel : IsKernel r.kernel
   pub kept : IsCoreKept r.kernel loaded (core_of_run r)
   pub room : r.actions + beyond ≤ length r.board.lists.order + r.board.spare

@@ -1,5 +1,5 @@
 -- What a core keeps beside each of its harts (this project's own).
-use Rattle.std.specs.Prelude.{◌≡◌, Bool, true, false, Option, Some}
+use Rattle.std.specs.Prelude.{◌≡◌, Bool, true, false, List, map, Option, Some}
 use Rattle.hart_model.specs.HartState.{HartState}
 use Rattle.core_model.specs.declared.action.Action.{Action}
 use Rattle.core_model.specs.declared.action.Action.TheVariants.{Empty}
@@ -12,6 +12,10 @@ use Rattle.hart_advance.specs.Pacing.{IsPaceOf}
 pub record SeatValue : Type 0 where
   pub pace : PaceState
   pub has_stopped : Bool
+
+-- the paces alone
+abbrev pub paces_of : List SeatValue → List PaceState
+paces_of seats = map (λ (s : SeatValue). s.pace) seats
 
 -- before the first take
 abbrev pub boot_seat : Plan → SeatValue

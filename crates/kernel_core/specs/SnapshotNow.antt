@@ -1,18 +1,14 @@
 -- A core as it is reported, by its own lists (this project's own).
-use Rattle.std.specs.Prelude.{ℕ, List, [], length}
+use Rattle.std.specs.Prelude.{ℕ, List, length}
 use Rattle.hart_model.specs.HartState.{HartState}
 use Rattle.core_model.specs.Board.{BoardState}
-use Rattle.core_model.specs.Core.{CoreState}
 use Rattle.probe_log.specs.Counts.{Counts}
+use Rattle.resume_laws.specs.Parts.{core_of_parts}
 use Rattle.kernel_core.specs.declared.snapshot.Snapshot.{Snapshot}
 use Rattle.kernel_core.specs.Snapshots.{states_from}
 use Rattle.kernel_core.specs.History.{CoreValue}
 
--- a board and harts as a core; a snapshot looks at no log
-abbrev pub core_of_parts : BoardState → List HartState → CoreState
-core_of_parts board harts = record { board = board; harts = harts; log = [] }
-
--- the snapshot of so many tasks, with these counts
+-- the snapshot of so many tasks, with these counts; it looks at no log
 abbrev pub snapshot_from : BoardState → List HartState → ℕ → Counts → Snapshot
 snapshot_from board harts tasks tally = record {
   harts = length harts;

@@ -6,6 +6,7 @@ mod boot;
 mod counted;
 mod kernel;
 pub mod laws;
+pub mod parts;
 pub mod queue_action;
 mod reporting;
 mod run;
@@ -15,6 +16,7 @@ mod whole_core;
 
 pub use boot::board_at_boot;
 pub use kernel::Kernel;
+pub use parts::{Paces, Parts};
 pub use reporting::snapshot_of_parts;
 pub use snapshot::{Snapshot, TaskState};
 pub use whole_core::Core;

@@ -2,7 +2,8 @@
 
 ghost use Rattle.std.specs.Prelude.{◌≡◌, ◌<◌, ◌^◌, length, slice_get, option_map, IfOk};
 ghost use Rattle.kernel_core.specs.Snapshots.{waiting_state, live_state, ended_state, state_of_context, held_by, state_of, states_from, snapshot_of};
-ghost use Rattle.kernel_core.specs.SnapshotNow.{core_of_parts, snapshot_from, snapshot_now};
+ghost use Rattle.resume_laws.specs.Parts.{core_of_parts};
+ghost use Rattle.kernel_core.specs.SnapshotNow.{snapshot_from, snapshot_now};
 ghost use Rattle.kernel_core.specs.History.{History, IsCoreOf, core_of};
 
 use crate::run::Run;

@@ -13,6 +13,7 @@ use crate::run::Run;
 use crate::seat::{Seat, stopped_after};
 use core_model::{Action, Event};
 use probe_log::Keeper;
+use ready_queue::Board;
 use std::marker::Model;
 
 /// No hart comes to a queue action by more steps, the action's own among them.
@@ -176,6 +177,13 @@ impl<K: Keeper> Core<K> {
             Some(action) => action,
             None => unreachable!(),
         }
+    }
+
+    /// The board.
+    pub fn board(&self) -> &Board
+        ensures board { result.now ≡ self.now.run.board }
+    {
+        &self.run.board
     }
 
     /// The keeper.

@@ -2,7 +2,7 @@
 use Rattle.std.proofs.Common.{◌++◌, ◌∷◌, [], List, sym, ap, ◌∙◌, arith}
 use Rattle.core_model.specs.Core.{CoreState}
 use Rattle.kernel_core.specs.declared.snapshot.TaskState.{TaskState}
-use Rattle.kernel_core.specs.SnapshotNow.{core_of_parts}
+use Rattle.resume_laws.specs.Parts.{core_of_parts}
 use Rattle.kernel_core.specs.Snapshots.{states_from}
 use Rattle.kernel_core.proofs.Reported.{states-more}
 use Rattle.kernel_core.proofs.reporting.states.Goals as goal

@@ -1,6 +1,6 @@
 -- The tasks so far.
 use Rattle.std.proofs.Common.{◌≡◌, ◌≤◌, ◌-◌}
-use Rattle.kernel_core.specs.SnapshotNow.{core_of_parts}
+use Rattle.resume_laws.specs.Parts.{core_of_parts}
 use Rattle.kernel_core.specs.Snapshots.{states_from}
 use Rattle.kernel_core.proofs.reporting.states.Given as goal
 

@@ -20,7 +20,7 @@ returns-clause-told g c t is =
     (λ log stood. c.apply.ensures.log (of_counts ∷ log) stood)
 
 pub returns-clause-sound : goal.returns-clause-sound
-returns-clause-sound g c t is = sound-so (given t c.args.event) is.is_loaded is.is_kernel
+returns-clause-sound g c t is = sound-so (given t c.args.event) is.is_kernel is.start
 
 pub returns-clause-keeper : goal.returns-clause-keeper
 returns-clause-keeper g c before stood =

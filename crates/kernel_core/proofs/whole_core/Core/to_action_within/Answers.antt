@@ -82,7 +82,7 @@ returns-in-Some g c =
     record {
       told = λ t is. (last t is c.in-Some.action c.in-Some.is).told;
       action = λ t is. (last t is c.in-Some.action c.in-Some.is).action_is;
-      sound = λ t is. sound-so (acted t c.args.hart).history is.core.is_loaded is.core.is_kernel;
+      sound = λ t is. sound-so (acted t c.args.hart).history is.core.is_kernel is.core.start;
       actions = c.to_step.ensures.actions ∙ c.loop-step.invariant.actions;
       paced = c.to_step.ensures.paced;
       keeper = λ t is before stood. (last t is c.in-Some.action c.in-Some.is).log before stood;

@@ -99,7 +99,7 @@ returns g c =
     record {
       told = λ t is. paced-step t c.args.hart old after c.go_paced-action.result (is_old t is) gone;
       action = λ t is. action-is t c.args.hart old after c.go_paced-action.result (is_old t is) gone;
-      sound = λ t is. sound-so (stepped t c.args.hart).history is.core.is_loaded is.core.is_kernel;
+      sound = λ t is. sound-so (stepped t c.args.hart).history is.core.is_kernel is.core.start;
       actions = (
           let plan = plan_at told.0.history.loaded.plans c.args.hart in
           let progress = get_or told.0.paces c.args.hart boot_pace in
