@@ -1,9 +1,10 @@
 #!/usr/bin/env python3
 """Prints what msktask prints for a bundle on standard input. The words are those of the program: alone, asm, script, script probes, explain,
-replay H, replay H probes, run 1, certify. See README.md in this folder."""
+replay H, replay H probes, run 1, certify, certify 2. See README.md in this folder."""
 
 import sys
 from collections import Counter
+from itertools import combinations
 from pathlib import Path
 
 sys.dont_write_bytecode = True
@@ -75,39 +76,89 @@ def explained(bundle, core):
         yield line
 
 
-def verdict(bundle):
-    """The line of `certify`, and its status."""
+def course_differs(runs):
+    """The first step at which a run is seen otherwise than the first one, and that run's number; or None."""
+    first, fuel = runs[0], runs[0].task.fuel
+    for n in range(fuel + 1):
+        for b, run in enumerate(runs):
+            if run.seen[n : n + 1] != first.seen[n : n + 1] or n == fuel and run.pc != first.pc:
+                return n, b
+    return None
+
+
+def columns_of(bundle, runs):
+    """The places that the runs in the worlds write, in their order: (step, latch, the changes there in the worlds of each secret, the least first)."""
+    members = {secret: [] for secret in sorted({secret for secret, _ in bundle.worlds})}
+    for (secret, _), run in zip(bundle.worlds, runs):
+        members[secret].append(run)
+    for n, changes in enumerate(runs[0].changes):
+        latches = [latch for latch, _, _ in changes]
+        for latch in sorted(latches, key=latch_key):
+            k = latches.index(latch)
+            yield n, latch, {secret: [run.changes[n][k][1:] for run in of_secret] for secret, of_secret in members.items()}
+
+
+def first_difference(shown):
+    """The least two secrets, and the least of what is shown, that come in different numbers of worlds: (a, b, it, count of a, count of b); or None.
+    `shown` has for each secret, the least first, what its worlds show."""
+    secrets = list(shown)
+    least = Counter(shown[secrets[0]])
+    for other in secrets[1:]:
+        counts = Counter(shown[other])
+        if counts != least:
+            it = min(it for it in least.keys() | counts.keys() if least[it] != counts[it])
+            return secrets[0], other, it, least[it], counts[it]
+    return None
+
+
+def judged(bundle):
+    """The line of `certify`, its status, and the columns, where the verdict is `secure`."""
     task, worlds = bundle.tasks[0], Counter(secret for secret, _ in bundle.worlds)
     if not worlds:
-        return "no worlds", 3
+        return "no worlds", 3, None
     if len(bundle.worlds) * task.fuel > 2000000:
-        return f"too much {len(bundle.worlds) * task.fuel}", 3
-    secrets, places = sorted(worlds), 0
-    for other in secrets:
-        if worlds[other] != worlds[secrets[0]]:
-            return f"uneven {secrets[0]} {other}", 3
-    runs = [(secret, Alone(task, tape)) for secret, tape in bundle.worlds]
-    first = runs[0][1]
-    for n in range(task.fuel + 1):
-        for b, (_, run) in enumerate(runs):
-            if run.seen[n : n + 1] != first.seen[n : n + 1] or n == task.fuel and run.pc != first.pc:
-                return f"control differs worlds 0 {b} step {n}", 1
-    for n in range(len(first.changes)):
-        found = {}  # latch: {secret: Counter of changes}
-        for secret, run in runs:
-            for latch, was, now in run.changes[n]:
-                found.setdefault(latch, {}).setdefault(secret, Counter())[was, now] += 1
-        places += len(found)
-        for latch in sorted(found, key=latch_key):
-            least = found[latch].get(secrets[0], Counter())
-            for other in secrets[1:]:
-                counts = found[latch].get(other, Counter())
-                unlike = sorted(c for c in least.keys() | counts.keys() if least[c] != counts[c])
-                if unlike:
-                    was, now = unlike[0]
-                    pair = f"pair {was:08x} {now:08x} counts {least[was, now]} {counts[was, now]}"
-                    return f"leak step {n} {latch} secrets {secrets[0]} {other} {pair}", 1
-    return f"secure {places}", 0
+        return f"too much {len(bundle.worlds) * task.fuel}", 3, None
+    least = min(worlds)
+    for other in sorted(worlds):
+        if worlds[other] != worlds[least]:
+            return f"uneven {least} {other}", 3, None
+    runs = [Alone(task, tape) for _, tape in bundle.worlds]
+    differs = course_differs(runs)
+    if differs:
+        return f"control differs worlds 0 {differs[1]} step {differs[0]}", 1, None
+    columns = list(columns_of(bundle, runs))
+    for n, latch, shown in columns:
+        found = first_difference(shown)
+        if found:
+            a, b, (was, now), count_a, count_b = found
+            return f"leak step {n} {latch} secrets {a} {b} pair {was:08x} {now:08x} counts {count_a} {count_b}", 1, None
+    return f"secure {len(columns)}", 0, columns
+
+
+def verdict(bundle):
+    """The line of `certify`, and its status."""
+    return judged(bundle)[:2]
+
+
+def verdict_two(bundle):
+    """The line of `certify 2`, and its status.
+
+    Places are all steps and latches, but those that are written are enough: a latch that a step doesn't write shows its value twice, which is no more
+    than its last write shows, at an earlier place. A place that shows the same in all worlds adds nothing to any other one, and is left out too."""
+    line, status, columns = judged(bundle)
+    if columns is None:
+        return line, status
+    product = len(bundle.worlds) * len(columns) ** 2
+    if product > 50000000:
+        return f"too many {product}", 3
+    telling = [column for column in columns if len({change for changes in column[2].values() for change in changes}) > 1]
+    for (n, latch, shown), (m, other_latch, other_shown) in combinations(telling, 2):
+        found = first_difference({secret: list(zip(shown[secret], other_shown[secret])) for secret in shown})
+        if found:
+            a, b, ((was, now), (other_was, other_now)), count_a, count_b = found
+            values = f"values {was:08x} {now:08x} {other_was:08x} {other_now:08x}"
+            return f"leak2 steps {n} {m} latches {latch} {other_latch} secrets {a} {b} {values} counts {count_a} {count_b}", 1
+    return f"secure2 {len(columns)}", 0
 
 
 def main(words):
@@ -116,8 +167,8 @@ def main(words):
         lines = alone_report(bundle)
     elif words == ["asm"]:
         lines = code_listing(bundle)
-    elif words == ["certify"]:
-        line, status = verdict(bundle)
+    elif words in (["certify"], ["certify", "2"]):
+        line, status = verdict(bundle) if len(words) == 1 else verdict_two(bundle)
         print(line)
         sys.exit(status)
     else:
