@@ -1,9 +1,10 @@
 #!/usr/bin/env bash
 # Compares what the program prints for each example with what stands beside it: NAME.bundle with NAME.alone, and with NAME.asm,
 # NAME.script, NAME.probes (of `script probes`), NAME.explain, NAME.replayH (of `replay H`), NAME.runH (of `run H`, where the harts can make
-# one order alone) and NAME.certify where there is one; and each NAME.routine with NAME.lint. Then what documents say is printed, by
-# tutorial.sh, and what is made of the C files, by from-c/compare.sh. Prints what differs, and nothing where all agree. Ends with 1 where
-# something differs, a report is missing or the program isn't built.
+# one order alone) and NAME.certify where there is one; and each NAME.routine with NAME.lint. Then the worlds of each file that has some with
+# those that worlds.py makes of its declaration, and what the first task puts out in them with what is declared. Then what documents say is
+# printed, by tutorial.sh, and what is made of the C files, by from-c/compare.sh. Prints what differs, and nothing where all agree. Ends with 1
+# where something differs, a report is missing or the program isn't built. Where there is no python3 it says so, and compares no worlds.
 set -u
 cd "$(dirname "$0")" || exit 2
 program=../crates/msktask/out/msktask
@@ -11,6 +12,8 @@ if [ ! -x "$program" ]; then
     echo "examples: not compared, since crates/msktask/out/msktask isn't built" >&2
     exit 1
 fi
+room=$(mktemp -d)
+trap 'rm -rf "$room"' EXIT
 
 # what a command prints for a bundle, and then its status
 printed() {
@@ -23,10 +26,14 @@ printed() {
     echo "status $?"
 }
 
-# what it has to print: the file, and then its status, which is 1 for a task that isn't certified and for a routine that is refused, and 0 for
-# everything else
+# what it has to print: the file, and then its status, which stands in a file beside it, or else is 1 for a task that isn't certified and for a
+# routine that is refused, and 0 for everything else
 wanted() {
     cat "$1" || return
+    if [ -e "$1.status" ]; then
+        echo "status $(cat "$1.status")"
+        return
+    fi
     case $(head -c 4 "$1") in
         leak | cont | refu) echo "status 1" ;;
         *) echo "status 0" ;;
@@ -46,6 +53,14 @@ for routine in *.routine; do
     name=${routine%.routine}
     diff --label "$name.lint" --label "lint < $routine" -u <(wanted "$name.lint") <(printed lint "$routine") || differ=1
 done
+if command -v python3 >/dev/null; then
+    for file in $(grep -l '^world' -- *.bundle from-c/*.bundle from-c/*.worlds); do
+        python3 worlds.py --program "$program" <"$file" >"$room/worlds" 2>"$room/told" || { sed "s|^|$file: |" "$room/told" && differ=1; }
+        diff --label "$file" --label "worlds.py < $file" -u "$file" "$room/worlds" || differ=1
+    done
+else
+    echo "examples: worlds not compared, since there is no python3 here" >&2
+fi
 ./tutorial.sh || differ=1
 ./from-c/compare.sh || differ=1
 exit "$differ"

@@ -1,5 +1,5 @@
 #!/usr/bin/env python3
-"""Verdicts on two probes, on bundles so small that they can be worked out by hand. Those that get beyond one probe, but for the two at the limit, are
+"""Verdicts on two probes of small bundles, which were worked out apart from this model. Those that get beyond one probe, but for the two at the limit, are
 judged once more by all steps and all latches, written or not. Prints what differs, and nothing where all agree; ends with 1 where something differs."""
 
 import sys
