@@ -2,9 +2,10 @@
 # Compares what the program prints for each example with what stands beside it: NAME.bundle with NAME.alone, and with NAME.asm,
 # NAME.script, NAME.probes (of `script probes`), NAME.explain, NAME.replayH (of `replay H`), NAME.runH (of `run H`, where the harts can make
 # one order alone) and NAME.certify where there is one; and each NAME.routine with NAME.lint. Then the worlds of each file that has some with
-# those that worlds.py makes of its declaration, and what the first task puts out in them with what is declared. Then what documents say is
-# printed, by tutorial.sh, and what is made of the C files, by from-c/compare.sh. Prints what differs, and nothing where all agree. Ends with 1
-# where something differs, a report is missing or the program isn't built. Where there is no python3 it says so, and compares no worlds.
+# those that worlds.py makes of its declaration, and what the first task puts out in them with what is declared; the pictures in docs/ with those
+# that picture.py draws, and its waves, read back, with the log. Then what documents say is printed, by tutorial.sh, and what is made of the C
+# files, by from-c/compare.sh. Prints what differs, and nothing where all agree. Ends with 1 where something differs, a report is missing or the
+# program isn't built. Where there is no python3 it says so, and compares no worlds and pictures.
 set -u
 cd "$(dirname "$0")" || exit 2
 program=../crates/msktask/out/msktask
@@ -40,6 +41,9 @@ wanted() {
     esac
 }
 
+# tells where a picture in docs/ isn't the one that comes in
+drawn() { cmp -s "../docs/$1" - || { echo "docs/$1 isn't what picture.py draws" && differ=1; }; }
+
 differ=0
 for bundle in *.bundle from-c/*.bundle; do
     name=${bundle%.bundle}
@@ -58,8 +62,16 @@ if command -v python3 >/dev/null; then
         python3 worlds.py --program "$program" <"$file" >"$room/worlds" 2>"$room/told" || { sed "s|^|$file: |" "$room/told" && differ=1; }
         diff --label "$file" --label "worlds.py < $file" -u "$file" "$room/worlds" || differ=1
     done
+    "$program" script probes <preempted.bundle >"$room/preempted"
+    "$program" replay 2 probes <two-owners.bundle >"$room/two-owners"
+    drawn preempted.svg < <(python3 picture.py --from 244 --to 500 <"$room/preempted")
+    drawn two-owners.svg < <(python3 picture.py --from 13640 --to 15160 <"$room/two-owners")
+    drawn dom-reused-register.svg < <("$program" certify <dom-reused-register.bundle | python3 picture.py --run dom-reused-register.bundle)
+    for log in preempted two-owners; do
+        python3 picture.py --vcd <"$room/$log" >"$room/waves" && python3 read_vcd.py "$room/waves" <"$room/$log" || differ=1
+    done
 else
-    echo "examples: worlds not compared, since there is no python3 here" >&2
+    echo "examples: worlds and pictures not compared, since there is no python3 here" >&2
 fi
 ./tutorial.sh || differ=1
 ./from-c/compare.sh || differ=1
