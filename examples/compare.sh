@@ -58,7 +58,8 @@ for routine in *.routine; do
     diff --label "$name.lint" --label "lint < $routine" -u <(wanted "$name.lint") <(printed lint "$routine") || differ=1
 done
 if command -v python3 >/dev/null; then
-    for file in $(grep -l '^world' -- *.bundle from-c/*.bundle from-c/*.worlds); do
+    for file in *.bundle from-c/*.bundle from-c/*.worlds; do
+        grep -q '^world' "$file" || continue
         python3 worlds.py --program "$program" <"$file" >"$room/worlds" 2>"$room/told" || { sed "s|^|$file: |" "$room/told" && differ=1; }
         diff --label "$file" --label "worlds.py < $file" -u "$file" "$room/worlds" || differ=1
     done

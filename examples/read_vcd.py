@@ -53,17 +53,20 @@ def entries_of(lines):
 
 def main(words):
     with open(words[0], encoding="ascii") as file:
-        states = list(states_of(file.read()))
+        states = states_of(file.read())
     first = int(words[1]) if len(words) > 1 else 0
     entries = list(entries_of(sys.stdin))[first : int(words[2]) + 1 if len(words) > 2 else None]
-    if len(states) != len(entries) + 1:
-        sys.exit(f"waves: {len(states) - 1} writes are in the file, {len(entries)} in the log")
+    before = next(states)
     for k, (hart, pc, latch, was, now) in enumerate(entries):
-        wanted = {**states[k], "hart": hart, "pc": pc, latch: now}
+        after = next(states, None)
+        wanted = {**before, "hart": hart, "pc": pc, latch: now}
         if k + 1 < len(entries):  # what was changed by no entry stands a unit before the next write of its latch
             wanted[entries[k + 1][2]] = entries[k + 1][3]
-        if states[k].get(latch) != was or states[k + 1] != wanted:
+        if before.get(latch) != was or after != wanted:
             sys.exit(f"waves: write {first + k} differs")
+        before = after
+    if next(states, None):
+        sys.exit(f"waves: there are more than {len(entries)} writes")
 
 
 if __name__ == "__main__":
