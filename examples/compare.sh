@@ -5,7 +5,7 @@
 # those that worlds.py makes of its declaration, and what the first task puts out in them with what is declared; the pictures in docs/ with those
 # that picture.py draws, and its waves, read back, with the log. Then what documents say is printed, by tutorial.sh, and what is made of the C
 # files, by from-c/compare.sh. Prints what differs, and nothing where all agree. Ends with 1 where something differs, a report is missing or the
-# program isn't built. Where there is no python3 it says so, and compares no worlds and pictures.
+# program isn't built. Where there is no python3 it says so, and compares no worlds, no pictures and not docs/VERDICTS.md, which uses them.
 set -u
 cd "$(dirname "$0")" || exit 2
 program=../crates/msktask/out/msktask
@@ -71,8 +71,9 @@ if command -v python3 >/dev/null; then
     for log in preempted two-owners; do
         python3 picture.py --vcd <"$room/$log" >"$room/waves" && python3 read_vcd.py "$room/waves" <"$room/$log" || differ=1
     done
+    ./tutorial.sh docs/VERDICTS.md || differ=1
 else
-    echo "examples: worlds and pictures not compared, since there is no python3 here" >&2
+    echo "examples: worlds, pictures and docs/VERDICTS.md not compared, since there is no python3 here" >&2
 fi
 ./tutorial.sh || differ=1
 ./from-c/compare.sh || differ=1
