@@ -1,11 +1,12 @@
 #!/usr/bin/env bash
 # Compares what the program prints for each example with what stands beside it: NAME.bundle with NAME.alone, and with NAME.asm,
 # NAME.script, NAME.probes (of `script probes`), NAME.explain, NAME.replayH (of `replay H`), NAME.runH (of `run H`, where the harts can make
-# one order alone) and NAME.certify where there is one; and each NAME.routine with NAME.lint. Then the worlds of each file that has some with
-# those that worlds.py makes of its declaration, and what the first task puts out in them with what is declared; the pictures in docs/ with those
-# that picture.py draws, and its waves, read back, with the log. Then what documents say is printed, by tutorial.sh, and what is made of the C
-# files, by from-c/compare.sh. Prints what differs, and nothing where all agree. Ends with 1 where something differs, a report is missing or the
-# program isn't built. Where there is no python3 it says so, and compares no worlds, no pictures and not docs/VERDICTS.md, which uses them.
+# one order alone), NAME.certify and NAME.certify2 (of `certify 2`) where there is one; and each NAME.routine with NAME.lint. Then the worlds of
+# each file that has some with those that worlds.py makes of its declaration, and what the first task puts out in them with what is declared; the
+# pictures in docs/ with those that picture.py draws, and its waves, read back, with the log; and what real inputs and outputs come to, by
+# real_edge.sh. Then what documents say is printed, by tutorial.sh, and what is made of the C files, by from-c/compare.sh. Prints what differs,
+# and nothing where all agree. Ends with 1 where something differs, a report is missing or the program isn't built. Where there is no python3 it
+# says so, and compares no worlds, no pictures, not the real edge and not docs/VERDICTS.md, which use it.
 set -u
 cd "$(dirname "$0")" || exit 2
 program=../crates/msktask/out/msktask
@@ -22,6 +23,7 @@ printed() {
         probes) "$program" script probes <"$2" ;;
         replay?) "$program" replay "${1#replay}" <"$2" ;;
         run?) "$program" run "${1#run}" <"$2" ;;
+        certify2) "$program" certify 2 <"$2" ;;
         *) "$program" "$1" <"$2" ;;
     esac
     echo "status $?"
@@ -47,7 +49,7 @@ drawn() { cmp -s "../docs/$1" - || { echo "docs/$1 isn't what picture.py draws" 
 differ=0
 for bundle in *.bundle from-c/*.bundle; do
     name=${bundle%.bundle}
-    for command in alone asm run{1..8} script probes explain certify replay{1..8}; do
+    for command in alone asm run{1..8} script probes explain certify certify2 replay{1..8}; do
         [ -e "$name.$command" ] || [ "$command" = alone ] || continue
         diff --label "$name.$command" --label "$command < $bundle" -u <(wanted "$name.$command") <(printed "$command" "$bundle") ||
             differ=1
@@ -71,9 +73,10 @@ if command -v python3 >/dev/null; then
     for log in preempted two-owners; do
         python3 picture.py --vcd <"$room/$log" >"$room/waves" && python3 read_vcd.py "$room/waves" <"$room/$log" || differ=1
     done
+    ./real_edge.sh || differ=1
     ./tutorial.sh docs/VERDICTS.md || differ=1
 else
-    echo "examples: worlds, pictures and docs/VERDICTS.md not compared, since there is no python3 here" >&2
+    echo "examples: worlds, pictures, the real edge and docs/VERDICTS.md not compared, since there is no python3 here" >&2
 fi
 ./tutorial.sh || differ=1
 ./from-c/compare.sh || differ=1
