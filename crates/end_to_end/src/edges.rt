@@ -5,7 +5,7 @@ use std::process::Abort;
 use std::test::Fail;
 
 /// Words that are no command.
-const NO_COMMANDS: [&[&str]; 52] = [
+const NO_COMMANDS: [&[&str]; 55] = [
     &[],
     &[""],
     &["ALONE"],
@@ -35,6 +35,9 @@ const NO_COMMANDS: [&[&str]; 52] = [
     &["script", "1"],
     &["replay 1"],
     &["--help"],
+    &["certify", "1"],
+    &["certify", "02"],
+    &["certify", "2", "2"],
     &["run", "9"],
     &["gen", "7", "33"],
     &["gen"],

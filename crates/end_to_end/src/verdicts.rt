@@ -1,6 +1,7 @@
 //! Verdicts on tasks in the worlds of their secrets.
 
 use crate::harness::{SOUND, runs};
+use std::process::Abort;
 use std::test::Fail;
 
 /// The lines after `bundle 1` and `slots 1`, and the line of the verdict.
@@ -112,6 +113,48 @@ const VERDICTS: [(&str, &str); 21] = [
     ),
 ];
 
+/// The lines, as above, and the line of the verdict by two probes.
+const VERDICTS_BY_TWO: [(&str, &str); 8] = [
+    // two shares are two probes
+    (
+        "task fuel 9 out 4 data 0\ncode\naddi x17,x0,2\necall\naddi x8,x10,0\naddi x10,x0,0\necall\naddi x9,x10,0\naddi x10,x0,0\naddi x17,x0,0\necall\nendcode\nendtask\nworld 0 0 0\nworld 0 1 1\nworld 1 0 1\nworld 1 1 0\n",
+        "leak2 steps 1 4 latches x10 x10 secrets 0 1 values 00000000 00000000 00000000 00000000 counts 1 0\n",
+    ),
+    // the least secrets, whichever world comes first
+    (
+        "task fuel 9 out 4 data 0\ncode\naddi x17,x0,2\necall\naddi x8,x10,0\naddi x10,x0,0\necall\naddi x9,x10,0\naddi x10,x0,0\naddi x17,x0,0\necall\nendcode\nendtask\nworld 9 1 0\nworld 5 1 1\nworld 9 0 1\nworld 5 0 0\n",
+        "leak2 steps 1 4 latches x10 x10 secrets 5 9 values 00000000 00000000 00000000 00000000 counts 1 0\n",
+    ),
+    // a word that hangs on no secret
+    (
+        "task fuel 4 out 4 data 0\nwords 00200893 00000073 00000893 00000073\nendtask\nworld 0 0\nworld 0 1\nworld 1 0\nworld 1 1\n",
+        "secure2 7\n",
+    ),
+    // what one probe tells is told first
+    (
+        "task fuel 5 out 4 data 0\ncode\naddi x17,x0,2\necall\necall\naddi x17,x0,0\necall\nendcode\nendtask\nworld 0 0 0\nworld 0 1 1\nworld 1 0 1\nworld 1 1 0\n",
+        "leak step 2 x10 secrets 0 1 pair 00000000 00000000 counts 1 0\n",
+    ),
+    // and so are the faults by one
+    (
+        "task fuel 5 out 4 data 0\ncode\naddi x17,x0,2\necall\necall\naddi x17,x0,0\necall\nendcode\nendtask\nworld 0 0 0\nworld 1 0 1\nworld 1 1 1\n",
+        "uneven 0 1\n",
+    ),
+    (
+        "task fuel 6 out 4 data 0\ncode\naddi x17,x0,2\necall\naddi x8,x10,0\naddi x10,x0,0\necall\nbeq x8,x10,.+8\naddi x0,x0,0\naddi x0,x0,0\nendcode\nendtask\nworld 0 0 0\nworld 0 1 1\nworld 1 0 1\nworld 1 1 0\n",
+        "control differs worlds 0 2 step 6\n",
+    ),
+    // just as many pairs as are looked at, and one step more
+    (
+        "task fuel 3332 out 4 data 0\ncode\naddi x17,x0,2\necall\nlui x5,0\nx: addi x0,x0,0\njal x0,x\nendcode\nendtask\nworld 0 0\nworld 1 0\n",
+        "secure2 5000\n",
+    ),
+    (
+        "task fuel 3333 out 4 data 0\ncode\naddi x17,x0,2\necall\nlui x5,0\nx: addi x0,x0,0\njal x0,x\nendcode\nendtask\nworld 0 0\nworld 1 0\n",
+        "too many 50020002\n",
+    ),
+];
+
 /// The number of the status that comes with this line.
 fn number_of(line: &str) -> u8 {
     if line.starts_with("secure") {
@@ -123,21 +166,27 @@ fn number_of(line: &str) -> u8 {
     }
 }
 
-#[test]
-fn judges(rt: HostRuntime) -> Result<(), Fail> {
+/// Each of the bundles has the line of its verdict, and the status that comes with it.
+fn judge<R: Abort + AllocGlobal>(
+    rt: &R,
+    words: &[&str],
+    rows: &[(&str, &str)],
+) -> Result<(), Fail> {
     let alloc = rt.alloc();
-    for (lines, line) in &VERDICTS {
+    for (lines, line) in rows {
         let mut text = String::from_str(alloc, "bundle 1\nslots 1\n")?;
         text.push_str(lines)?;
-        runs(
-            &rt,
-            &["certify"],
-            text.as_bytes(),
-            SOUND,
-            number_of(line),
-            line,
-            0,
-        )?;
+        runs(rt, words, text.as_bytes(), SOUND, number_of(line), line, 0)?;
     }
     Ok(())
+}
+
+#[test]
+fn judges(rt: HostRuntime) -> Result<(), Fail> {
+    judge(&rt, &["certify"], &VERDICTS)
+}
+
+#[test]
+fn judges_by_two(rt: HostRuntime) -> Result<(), Fail> {
+    judge(&rt, &["certify", "2"], &VERDICTS_BY_TWO)
 }
