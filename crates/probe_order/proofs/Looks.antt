@@ -140,12 +140,6 @@ numbers-below numbers members counts table below long low k d inside =
     let here = below (get_or members k 0) 0 (low k 0 under) in
     omega (arith, is, here, long)
 
-pub table-more : (counts : List ℕ) → IsEmpty counts → IsEmpty (counts ++ 0 ∷ [])
-table-more [] empty zero = refl
-table-more [] empty (suc n) = refl
-table-more (x ∷ counts) empty zero = empty 0
-table-more (x ∷ counts) empty (suc n) = table-more counts (λ m. empty (suc m)) n
-
 -- a table that was written back as a whole
 pub table-written : (counts old : List ℕ) (long : ℕ) → long ≡ length counts → IsEmpty counts → IsEmpty (take long (counts ++ drop (length counts) old))
 table-written counts old long same empty =

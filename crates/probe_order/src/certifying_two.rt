@@ -85,7 +85,8 @@ fn by_two(alloc: Global, survey: &Survey, places: u64) -> Result<VerdictTwo, Two
 /// of latch writes over 50,000,000; the first two latch writes that together aren't independent of the secret, by the first and then by the
 /// second one; secure. Each comes exactly where it is so and none before it is. Memory may come at any place.
 ///
-/// Beside what `certify` takes, the time goes with the worlds times the pairs of latch writes, and with what sorting their changes takes.
+/// Beside what `certify` takes, the time goes with the worlds times the pairs of latch writes, and it takes up to 12 bytes for each latch
+/// write of each world.
 pub fn certify_two(alloc: Global, task: &Task, worlds: &[World]) -> Result<VerdictTwo, TwoFault>
     requires valid { IsValidTask task.now }
     requires few { length worlds.now ≤ max_worlds }

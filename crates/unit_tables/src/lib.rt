@@ -12,3 +12,5 @@ mod packed;
 mod runs;
 #[cfg(test)]
 mod seats;
+#[cfg(test)]
+mod several;

@@ -13,7 +13,7 @@ use std::test::Fail;
 use timer_plan::Pace;
 
 /// A task of these words, at its place as number 0.
-fn task_of(alloc: Global, code: &[u32]) -> Result<Task, AllocError>
+pub(crate) fn task_of(alloc: Global, code: &[u32]) -> Result<Task, AllocError>
     requires short { length code.now ≤ 64 }
     ensures valid { IfOk result IsValidTask }
 {
