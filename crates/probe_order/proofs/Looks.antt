@@ -1,5 +1,5 @@
 -- Places whose numbers look alike have all groups alike.
-use Rattle.std.proofs.Common.{◌≡◌, ◌⊎◌, inl, inr, ℕ, zero, suc, ◌+◌, ◌<◌, ◌≤◌, ◌==◌, ◌&&◌, Bool, true, false, not, true≢false, cond, if◌then◌else◌, List, [], ◌∷◌, ◌++◌, map, take, drop, length, length-append, get_or, slice_get, Some, All, IsPermutation, refl, ap, sym, ◌∙◌, subst, arith}
+use Rattle.std.proofs.Common.{◌≡◌, ◌⊎◌, inl, inr, ℕ, ◌+◌, ◌<◌, ◌≤◌, ◌==◌, ◌&&◌, Bool, true, false, not, true≢false, cond, if◌then◌else◌, List, [], ◌∷◌, ◌++◌, map, take, drop, length, length-append, get_or, slice_get, Some, All, IsPermutation, refl, ap, sym, ◌∙◌, subst, arith}
 use Rattle.std.specs.List.{count_by}
 use Rattle.std.specs.Cmp.Lexicographic.{pointwise}
 use Rattle.std.specs.Prelude.{nat_eq}
