@@ -13,7 +13,7 @@ use resting_hart::Rest;
 use std::alloc::{AllocError, Global};
 
 /// The number that the first four bytes spell, `4d 4b 42 31`.
-const MAGIC: u32 = 0x3142_4b4d;
+pub(crate) const MAGIC: u32 = 0x3142_4b4d;
 
 /// Appends a number.
 fn add_number(number: u32, out: &mut Vec<u8>) -> Result<(), AllocError>
