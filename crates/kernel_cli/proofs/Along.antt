@@ -5,6 +5,7 @@ use Rattle.std.proofs.lemmas.List.{append-nil, append_assoc}
 use Rattle.hart_model.specs.declared.probe.Probe.{Probe}
 use Rattle.core_model.specs.declared.event.OrderRun.{OrderRun}
 use Rattle.core_model.specs.declared.loaded.Loaded.{Loaded}
+use Rattle.core_model.specs.Loaded.{IsLoaded}
 use Rattle.core_model.specs.Events.{order_of, entry_count, CountsAreLengths}
 use Rattle.core_model.specs.KernelWords.{kernel_code}
 use Rattle.core_model.specs.Core.{CoreState, core_from}
@@ -41,15 +42,16 @@ one_of (suc n) hart some = let e : suc n - 1 ≡ n = omega arith in rw e refl
 
 module _ {K : Type 0} (stands : K → List Probe → Type 0) (room_of : K → ℕ) (most : ℕ) (loaded : Loaded) where
   -- at boot all entries are left
-  pub boots : (keeper : K) (runs : List OrderRun) (c : CoreValue K) → CountsAreLengths → runs ≡ loaded.order
+  pub boots : IsLoaded loaded → (keeper : K) (runs : List OrderRun) (c : CoreValue K) → CountsAreLengths → runs ≡ loaded.order
       → IsPacedCoreOf (paced_at_boot loaded emitted_parts) c → c.log.keeper ≡ keeper → stands keeper [] → c.run.actions ≡ entry_count runs
       → room_of keeper ≡ most + entries_each → StandsAlong stands room_of most loaded 0 (order_of runs) c
   unfolding core_from fine_from coarse_from IsLegalFrom
-  boots keeper runs c counts same core kept nothing actions room =
+  boots is_loaded keeper runs c counts same core kept nothing actions room =
       let P : List OrderRun → Type 0 = λ rs. StandsAlong stands room_of most loaded 0 (order_of rs) c in
       let Q : K → Type 0 = λ k. stands k [] in
       let e : room_of c.log.keeper ≡ room_of keeper = ap room_of kept in
       subst P (sym same) (record {
+        is_loaded = is_loaded;
         done = [];
         all = refl;
         place = refl;
@@ -107,7 +109,7 @@ module _ {K : Type 0} (stands : K → List Probe → Type 0) (room_of : K → �
     pub has_actions : length c.run.board.lists.order < c.run.actions
     has_actions =
         let order : (core_of told.history).board.order ≡ s.done =
-        boards-tell emitted_parts s.core.core.is_kernel.kernel loaded s.core.core.is_loaded s.done s.legal in
+        boards-tell emitted_parts s.core.core.is_kernel.kernel loaded s.is_loaded s.done s.legal in
         let same : length c.run.board.lists.order ≡ length s.done =
         ap (λ b. length b.order) s.core.core.board ∙ ap length order in
         let all : length s.done + suc (length rest) ≡ length (order_of loaded.order) = sym (length-append s.done (hart ∷ rest)) ∙ ap length s.all in
@@ -157,6 +159,7 @@ module _ {K : Type 0} (stands : K → List Probe → Type 0) (room_of : K → �
         let more : length next ≡ length s.done + 1 = length-append s.done (hart ∷ []) in
         let passes = end-passes (Some most) kernel_code.words loaded.plans co at hart rest (legal-test co hart legal) (above_is false below) in
         record {
+          is_loaded = s.is_loaded;
           done = next;
           all = append_assoc s.done (hart ∷ []) rest ∙ s.all;
           place = omega (arith, place, more);

@@ -10,7 +10,8 @@ use Rattle.core_model.proofs.Lists.{some-is}
 use Rattle.timer_plan.specs.Tokens.{IsDecimal}
 use Rattle.bundle_text.specs.Numbers.{decimal_of}
 use Rattle.bundle_text.proofs.RunTokens.{SpellsDecimal, decimal_spelled}
-use Rattle.kernel_cli.specs.Commands.{IsHartCount, IsNumberIn, IsSeed, IsTaskCount, SpellsNumbers, SpellsCommand, hart_count, run_by, replay_by, within, number_in, numbered, numbered_by, HasTasks, command_with_numbers, command_of, harts_of}
+use Rattle.kernel_cli.specs.Commands.{IsHartCount, IsNumberIn, IsSeed, IsTaskCount, SpellsNumbers, SpellsCommand, hart_count, run_by, replay_by, within, number_in, numbered, numbered_by, command_with_numbers, command_of}
+use Rattle.kernel_cli.specs.Works.{work_of, HasCounts}
 
 -- a word that its test says is this one
 is_this : (word this : List ℕ) → bytes_eq word this ≡ true → word ∷ [] ≡ this ∷ []
@@ -236,20 +237,20 @@ spelled_decided words (LintDrill seed tasks) h =
 spelled_decided words (Gen seed tasks) h =
     ap command_of h.words_are ∙ numbers_decided (codes "gen") h.seed_word h.tasks_word seed tasks h.seed_is h.tasks_are
 
--- A command that words spell asks for 1 to 8 harts.
-pub spelled_harts : (words : List (List ℕ)) (command : Command) → SpellsCommand words command → IsHartCount (harts_of command)
-spelled_harts words Alone h = (omega arith, omega arith)
-spelled_harts words Asm h = (omega arith, omega arith)
-spelled_harts words (Run harts) h = h.0
-spelled_harts words (Script probes) h = (omega arith, omega arith)
-spelled_harts words (Replay harts false) h = h.0
-spelled_harts words (Replay harts true) h = h.0
-spelled_harts words Explain h = (omega arith, omega arith)
-spelled_harts words Certify h = (omega arith, omega arith)
-spelled_harts words (Gen seed tasks) h = (omega arith, omega arith)
-spelled_harts words (Drill seed tasks) h = (omega arith, omega arith)
-spelled_harts words Lint h = (omega arith, omega arith)
-spelled_harts words (LintDrill seed tasks) h = (omega arith, omega arith)
+-- A command that words spell asks for 1 to 8 harts, and for 1 to 32 tasks.
+pub spelled_counts : (words : List (List ℕ)) (command : Command) → SpellsCommand words command → HasCounts (work_of command)
+spelled_counts words Alone h = (omega arith, omega arith)
+spelled_counts words Asm h = (omega arith, omega arith)
+spelled_counts words (Run harts) h = h.0
+spelled_counts words (Script probes) h = (omega arith, omega arith)
+spelled_counts words (Replay harts false) h = h.0
+spelled_counts words (Replay harts true) h = h.0
+spelled_counts words Explain h = (omega arith, omega arith)
+spelled_counts words Certify h = (omega arith, omega arith)
+spelled_counts words (Gen seed tasks) h = (h.tasks_are.least, h.tasks_are.greatest)
+spelled_counts words (Drill seed tasks) h = (h.tasks_are.least, h.tasks_are.greatest)
+spelled_counts words Lint h = tt
+spelled_counts words (LintDrill seed tasks) h = (h.tasks_are.least, h.tasks_are.greatest)
 
 -- Four words or more are no command.
 pub many_words : {A : Type 0} (f : A → List ℕ) (words : List A) → 4 ≤ length words → None ≡ command_of (map f words)
@@ -258,17 +259,3 @@ many_words f (a ∷ []) many = absurd (omega arith)
 many_words f (a ∷ b ∷ []) many = absurd (omega arith)
 many_words f (a ∷ b ∷ c ∷ []) many = absurd (omega arith)
 many_words f (a ∷ b ∷ c ∷ d ∷ others) many = refl
-
--- A run of the bundle of a number is one of 1 to 32 tasks.
-pub spelled_tasks : (words : List (List ℕ)) (command : Command) → SpellsCommand words command → HasTasks command
-spelled_tasks words Alone h = tt
-spelled_tasks words Asm h = tt
-spelled_tasks words (Run harts) h = tt
-spelled_tasks words (Script probes) h = tt
-spelled_tasks words (Replay harts probes) h = tt
-spelled_tasks words Explain h = tt
-spelled_tasks words Certify h = tt
-spelled_tasks words (Gen seed tasks) h = tt
-spelled_tasks words (Drill seed tasks) h = (h.tasks_are.least, h.tasks_are.greatest)
-spelled_tasks words Lint h = tt
-spelled_tasks words (LintDrill seed tasks) h = (h.tasks_are.least, h.tasks_are.greatest)

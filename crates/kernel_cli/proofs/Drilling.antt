@@ -3,6 +3,7 @@ use Rattle.std.proofs.Common.{◌≡◌, ℕ, ◌+◌, ◌^◌, ◌<◌, ◌≤�
 use Rattle.std.specs.List.{AllByRecursion}
 use Rattle.hart_model.specs.declared.probe.Probe.{Probe}
 use Rattle.core_model.specs.declared.loaded.Loaded.{Loaded}
+use Rattle.core_model.specs.Loaded.{IsLoaded}
 use Rattle.core_model.specs.Core.{core_from}
 use Rattle.core_model.specs.Orders.{CoarseState, boot_pace, boot_coarse, max_steps, fine_from, IsLegalEntry, IsLegal, IsLegalFrom}
 use Rattle.core_invariant.specs.KernelStates.{KernelParts}
@@ -26,13 +27,14 @@ alone_more [] each = (refl, tt)
 alone_more (hart ∷ order) each = (each.0, alone_more order each.1)
 
 module _ {K : Type 0} (stands : K → List Probe → Type 0) (room_of : K → ℕ) (kernel : KernelParts) (loaded : Loaded) (one : loaded.harts ≡ 1) where
-  pub boots : (keeper : K) (c : CoreValue K) → IsPacedCoreOf (paced_at_boot loaded kernel) c → c.log.keeper ≡ keeper → stands keeper []
+  pub boots : IsLoaded loaded → (keeper : K) (c : CoreValue K) → IsPacedCoreOf (paced_at_boot loaded kernel) c → c.log.keeper ≡ keeper → stands keeper []
       → c.run.actions ≡ 1048576 → 2 ^ 64 ≤ room_of keeper + 1 → IsDrilling stands room_of kernel loaded [] c
   unfolding core_from fine_from coarse_from IsLegalFrom
-  boots keeper c core kept nothing actions room =
+  boots is_loaded keeper c core kept nothing actions room =
       let Q : K → Type 0 = λ k. stands k [] in
       let e : room_of c.log.keeper ≡ room_of keeper = ap room_of kept in
       record {
+        is_loaded = is_loaded;
         core = subst (λ (t : PacedHistory). IsPacedCoreOf t c) (sym (orders-grow.none loaded kernel)) core;
         legal = tt;
         alone = tt;
@@ -74,15 +76,15 @@ module _ {K : Type 0} (stands : K → List Probe → Type 0) (room_of : K → �
 
     pub few : has_stopped_at c 0 ≡ false → length done < 1048576
     few goes =
-        let bounded = legal-orders kernel s.core.core.is_kernel.kernel loaded s.core.core.is_loaded (done ++ 0 ∷ []) (legal_next goes) in
+        let bounded = legal-orders kernel s.core.core.is_kernel.kernel loaded s.is_loaded (done ++ 0 ∷ []) (legal_next goes) in
         let more : length (done ++ 0 ∷ []) ≡ length done + 1 = length-append done (0 ∷ []) in
-        let most = s.core.core.is_loaded.bound in
+        let most = s.is_loaded.bound in
         omega (arith, bounded, more, most)
 
     pub order_is : length c.run.board.lists.order ≡ length done
     order_is =
         let order : (core_of told.history).board.order ≡ done =
-        boards-tell kernel s.core.core.is_kernel.kernel loaded s.core.core.is_loaded done s.legal in
+        boards-tell kernel s.core.core.is_kernel.kernel loaded s.is_loaded done s.legal in
         ap (λ b. length b.order) s.core.core.board ∙ ap length order
 
     pub has_actions : has_stopped_at c 0 ≡ false → length c.run.board.lists.order < c.run.actions
@@ -113,6 +115,7 @@ module _ {K : Type 0} (stands : K → List Probe → Type 0) (room_of : K → �
         let fits = s.room in
         let more : length next ≡ length done + 1 = length-append done (0 ∷ []) in
         record {
+          is_loaded = s.is_loaded;
           core = subst (λ (t : PacedHistory). IsPacedCoreOf t after) grows is;
           legal = legal_next goes;
           alone = alone_more done s.alone;

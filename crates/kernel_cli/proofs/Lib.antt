@@ -4,10 +4,10 @@ pub mod ScriptFits
 pub mod Playing
 pub mod Along
 pub mod Drilling
-pub mod Linting
 pub mod CountedFits
 pub mod Reporting
 pub mod FullLogs
 pub mod SoundCores
 pub mod DrillEnds
 pub mod Answering
+pub mod Linting

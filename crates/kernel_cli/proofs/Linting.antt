@@ -1,22 +1,26 @@
 -- What the input of `lint` is read as, and the answer over it.
-use Rattle.std.proofs.Common.{◌≡◌, ◌∙◌, ℕ, ◌≤◌, List, [], ◌++◌, length, Result, Ok, Err, refl, sym, ap, subst}
-use Rattle.std.proofs.lemmas.Bool.{le-ltb}
+use Rattle.std.proofs.Common.{◌≡◌, ◌∙◌, ℕ, ◌≤◌, List, [], ◌++◌, length, Some, Result, Ok, Err, refl, sym, ap, subst}
 use Rattle.core_model.specs.KernelWords.{linked_code}
 use Rattle.core_model.specs.declared.loaded.Loaded.{Loaded}
-use Rattle.masked_gen.specs.Generator.{generated}
-use Rattle.rv_loader.specs.Loading.{loading_of}
 use Rattle.scrub_rules.specs.Parts.{Parts}
 use Rattle.scrub_rules.specs.Broken.{AreAcceptedParts}
 use Rattle.scrub_rules.specs.declared.rule.Rule.TheVariants as rules
 use Rattle.scrub_rules.specs.declared.rule.RuleFault.{RuleFault}
-use Rattle.kernel_cli.specs.declared.command.Command.TheVariants.{Lint, LintDrill}
-use Rattle.kernel_cli.specs.declared.answer.Response.{Response}
-use Rattle.kernel_cli.specs.Answer.{Answer, input_limit, done, words_answer, routine_answer, routine_accepted, drilled_answer, code_answer}
+use Rattle.kernel_cli.specs.Answer.{Answer, done}
+use Rattle.kernel_cli.specs.AnswerOf.{answer_of}
+use Rattle.kernel_cli.specs.Bundles.{loading_answer}
 use Rattle.kernel_cli.specs.Drills.{IsDrillOrder, drill_report}
-use Rattle.kernel_cli.specs.Findings.{Linted}
-use Rattle.kernel_cli.specs.Lints.{words_in}
-use Rattle.kernel_cli.specs.Outcome.{IsAnswer}
-use Rattle.kernel_cli.specs.Routines.{AreWordsOf, IsRoutineOf, IsNoRoutine, IsAnswerOver}
+use Rattle.kernel_cli.specs.Findings.{Finding, Linted}
+use Rattle.kernel_cli.specs.Generated.{IsGenerated}
+use Rattle.kernel_cli.specs.Lints.{words_in, words_answer, routine_answer, routine_accepted, drilled_answer, code_answer}
+use Rattle.kernel_cli.specs.Outcome.{IsAnswer, IsAnswerOver}
+use Rattle.kernel_cli.specs.Routines.{AreWordsOf, IsRoutineOf, IsNoRoutine}
+use Rattle.kernel_cli.specs.Works.{text_limit}
+use Rattle.kernel_cli.specs.declared.answer.Response.{Response}
+use Rattle.kernel_cli.specs.declared.work.Work.TheVariants.{Code}
+use Rattle.kernel_cli.specs.declared.work.CodeWork.{CodeWork}
+use Rattle.kernel_cli.specs.declared.work.CodeWork.TheVariants.{Lint, LintDrill}
+use Rattle.kernel_cli.proofs.Answering.{answer_within}
 
 -- ---- no routine
 
@@ -33,26 +37,26 @@ no_words bytes response h = record {
 
 -- ---- the answers
 
--- over an input within the limit
-code_within : (bytes : List ℕ) (answer : Answer) → length bytes ≤ input_limit → code_answer bytes answer ≡ words_answer (words_in bytes) answer
-code_within bytes answer within = let test = le-ltb 4194304 (length bytes) within in rw test refl
+-- the answer over an input within the limit
+code_within : (work : CodeWork) (found : Finding) (bytes : List ℕ) (response : Response) → length bytes ≤ text_limit
+    → IsAnswer response (words_answer (words_in bytes) (code_answer work found)) → IsAnswer response (answer_of (Some (Code work)) found bytes)
+code_within work found bytes response within is =
+    subst (λ (a : Answer). IsAnswer response a) (sym (answer_within (Code work) found bytes refl within)) is
 
-pub lint_refused : (bytes : List ℕ) (response : Response) → length bytes ≤ input_limit → IsNoRoutine bytes response → IsAnswerOver Lint bytes response
+pub lint_refused : (bytes : List ℕ) (response : Response) → length bytes ≤ text_limit → IsNoRoutine bytes response → IsAnswerOver (Code Lint) bytes response
 lint_refused bytes response within r = (
   Linted (Err r.fault) [],
   λ words a. r.broken words a.words_are,
-  subst (λ (a : Answer). IsAnswer response a) (sym (code_within bytes (routine_answer (λ parts. done (routine_accepted parts)) (Err r.fault)) within))
-      (r.answer (λ parts. done (routine_accepted parts))),
+  code_within Lint (Linted (Err r.fault) []) bytes response within (r.answer (λ parts. done (routine_accepted parts))),
 )
 
-pub lint_drill_refused : (seed tasks : ℕ) (bytes : List ℕ) (response : Response) → length bytes ≤ input_limit → IsNoRoutine bytes response
-    → IsAnswerOver (LintDrill seed tasks) bytes response
-lint_drill_refused seed tasks bytes response within r =
-    let accepted : Parts → Answer = λ parts. drilled_answer parts [] (loading_of (generated seed tasks) 1) in (
-      Linted (Err r.fault) [],
-      (λ words a. r.broken words a.words_are, λ parts e. absurd (cc e)),
-      subst (λ (a : Answer). IsAnswer response a) (sym (code_within bytes (routine_answer accepted (Err r.fault)) within)) (r.answer accepted),
-    )
+pub lint_drill_refused : (seed tasks : ℕ) (bytes : List ℕ) (response : Response) → length bytes ≤ text_limit → IsNoRoutine bytes response
+    → IsAnswerOver (Code (LintDrill seed tasks)) bytes response
+lint_drill_refused seed tasks bytes response within r = (
+  Linted (Err r.fault) [],
+  (λ words a. r.broken words a.words_are, λ parts e. absurd (cc e)),
+  code_within (LintDrill seed tasks) (Linted (Err r.fault) []) bytes response within (r.answer (drilled_answer seed tasks [])),
+)
 
 -- the words of a routine are one list
 one_routine : (bytes : List ℕ) (parts : Parts) → IsRoutineOf bytes parts → (words : List ℕ) → words_in bytes ≡ Ok words
@@ -61,25 +65,27 @@ one_routine bytes parts r words e =
     let same : r.words ≡ words = cc (sym r.words_are ∙ e) in
     subst (λ (ws : List ℕ). AreAcceptedParts ws parts.save parts.restore) same r.accepted
 
-accepted_answer : (bytes : List ℕ) (parts : Parts) (answer : Answer) → length bytes ≤ input_limit → IsRoutineOf bytes parts → code_answer bytes answer ≡ answer
-accepted_answer bytes parts answer within r = code_within bytes answer within ∙ ap (λ (w : Result (List ℕ) (List ℕ)). words_answer w answer) r.words_are
+-- the answer over a routine
+over_routine : (work : CodeWork) (found : Finding) (bytes : List ℕ) (parts : Parts) (response : Response) → length bytes ≤ text_limit
+    → IsRoutineOf bytes parts → IsAnswer response (code_answer work found) → IsAnswer response (answer_of (Some (Code work)) found bytes)
+over_routine work found bytes parts response within r is = code_within work found bytes response within
+    (subst (λ (w : Result (List ℕ) (List ℕ)). IsAnswer response (words_answer w (code_answer work found))) (sym r.words_are) is)
 
-pub lint_accepted : (bytes : List ℕ) (parts : Parts) (response : Response) → length bytes ≤ input_limit → IsRoutineOf bytes parts
-    → IsAnswer response (done (routine_accepted parts)) → IsAnswerOver Lint bytes response
+pub lint_accepted : (bytes : List ℕ) (parts : Parts) (response : Response) → length bytes ≤ text_limit → IsRoutineOf bytes parts
+    → IsAnswer response (done (routine_accepted parts)) → IsAnswerOver (Code Lint) bytes response
 lint_accepted bytes parts response within r is = (
   Linted (Ok parts) [],
   λ words a. one_routine bytes parts r words a.words_are,
-  subst (λ (a : Answer). IsAnswer response a) (sym (accepted_answer bytes parts (done (routine_accepted parts)) within r)) is,
+  over_routine Lint (Linted (Ok parts) []) bytes parts response within r is,
 )
 
-pub lint_drilled : (seed tasks : ℕ) (bytes : List ℕ) (parts : Parts) (loaded : Loaded) (order : List ℕ) (response : Response) → length bytes ≤ input_limit
-    → IsRoutineOf bytes parts → loading_of (generated seed tasks) 1 ≡ Ok loaded → IsDrillOrder (linked_code parts.save parts.restore) loaded order
+pub lint_drilled : (seed tasks : ℕ) (bytes : List ℕ) (parts : Parts) (loaded : Loaded) (order : List ℕ) (response : Response) → length bytes ≤ text_limit
+    → IsRoutineOf bytes parts → IsGenerated seed tasks loaded → IsDrillOrder (linked_code parts.save parts.restore) loaded order
     → IsAnswer response (done (routine_accepted parts ++ drill_report (linked_code parts.save parts.restore) loaded order))
-    → IsAnswerOver (LintDrill seed tasks) bytes response
+    → IsAnswerOver (Code (LintDrill seed tasks)) bytes response
 lint_drilled seed tasks bytes parts loaded order response within r loads is_order is =
-    let answer = drilled_answer parts order (loading_of (generated seed tasks) 1) in
-    let answer_is : code_answer bytes answer ≡ done (routine_accepted parts ++ drill_report (linked_code parts.save parts.restore) loaded order) =
-    accepted_answer bytes parts answer within r ∙ ap (λ x. drilled_answer parts order x) loads in (
+    let report : Loaded → Answer = λ l. done (routine_accepted parts ++ drill_report (linked_code parts.save parts.restore) l order) in
+    let answer : drilled_answer seed tasks order parts ≡ report loaded = ap (λ x. loading_answer report x) loads in (
       Linted (Ok parts) order,
       (
         λ words a. one_routine bytes parts r words a.words_are,
@@ -88,5 +94,5 @@ lint_drilled seed tasks bytes parts loaded order response within r loads is_orde
             subst (λ (p : Parts). IsDrillOrder (linked_code p.save p.restore) found order) same
             (subst (λ (x : Loaded). IsDrillOrder (linked_code parts.save parts.restore) x order) bundle is_order)),
       ),
-      subst (λ (a : Answer). IsAnswer response a) (sym answer_is) is,
+      over_routine (LintDrill seed tasks) (Linted (Ok parts) order) bytes parts response within r (subst (λ (a : Answer). IsAnswer response a) (sym answer) is),
     )

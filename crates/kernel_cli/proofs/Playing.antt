@@ -96,7 +96,7 @@ module _ {K : Type 0} (stands : K → List Probe → Type 0) (room_of : K → �
   hart_exists : (most : ℕ) (loaded : Loaded) (event : Event) (left : List Event) (c : CoreValue K) → loaded.harts ≡ 8
       → StandsBefore stands room_of most loaded (event ∷ left) c → hart_of event < length c.run.harts
   hart_exists most loaded event left c harts s =
-      let each = low_runs loaded.events (recursion_from_All IsEventRunWithinLimits loaded.events s.core.is_loaded.limits.events) in
+      let each = low_runs loaded.events (recursion_from_All IsEventRunWithinLimits loaded.events s.core.within.events) in
       let P : List Event → Type 0 = λ events. AllByRecursion (λ e. hart_of e < max_harts) events in
       let low : hart_of event < 8 = low_next s.done left event (subst P (sym s.all) each) in
       let same : length c.run.harts ≡ length (core_by loaded s.done).harts = ap (λ hs. length hs) s.core.harts in

@@ -1,5 +1,5 @@
 -- The words of the command line, and the command that they are.
-use Rattle.std.specs.Prelude.{◌≡◌, ℕ, ◌-◌, ◌≤◌, Bool, true, false, ◌&&◌, not, ⊤, List, [], ◌∷◌, Option, Some, None, length, codes, decimal, nat_lt, nat_le, if◌then◌else◌}
+use Rattle.std.specs.Prelude.{◌≡◌, ℕ, ◌-◌, ◌≤◌, Bool, true, false, ◌&&◌, List, [], ◌∷◌, Option, Some, None, length, codes, decimal, nat_lt, nat_le, if◌then◌else◌}
 use Rattle.std.specs.Str.{bytes_eq}
 use Rattle.timer_plan.specs.Tokens.{IsDecimal}
 use Rattle.bundle_text.specs.Numbers.{decimal_of}
@@ -124,49 +124,3 @@ command_of (word ∷ []) = command_named word
 command_of (word ∷ detail ∷ []) = command_detailed word detail
 command_of (word ∷ detail ∷ more ∷ []) = command_of_three word detail more
 command_of _ = None
-
--- how many harts a command loads its bundle for
-abbrev pub harts_of : Command → ℕ
-harts_of (Run harts) = harts
-harts_of (Replay harts probes) = harts
-harts_of (Drill seed tasks) = 1
-harts_of (LintDrill seed tasks) = 1
-harts_of command = 8
-
--- whether a command reads the source; words that are no command don't
-abbrev pub reads_source : Option Command → Bool
-reads_source None = false
-reads_source (Some (Gen seed tasks)) = false
-reads_source (Some (Drill seed tasks)) = false
-reads_source (Some command) = true
-
--- whether it reads lines of code there, and whether a bundle
-abbrev pub reads_code : Command → Bool
-reads_code Lint = true
-reads_code (LintDrill seed tasks) = true
-reads_code command = false
-
-abbrev pub reads_bundle : Command → Bool
-reads_bundle command = reads_source (Some command) && not (reads_code command)
-
--- The command of the words, if one thread does it, and if threads do it, one for each hart.
-abbrev pub served_by_one : Option Command → Option Command
-served_by_one (Some (Run harts)) = None
-served_by_one command = command
-
-abbrev pub served_by_threads : Option Command → Option Command
-served_by_threads (Some (Run harts)) = Some (Run harts)
-served_by_threads command = None
-
--- whether a command finds nothing beside its bundle
-abbrev pub finds_nothing : Command → Bool
-finds_nothing (Run harts) = false
-finds_nothing Certify = false
-finds_nothing (Drill seed tasks) = false
-finds_nothing command = true
-
--- a command that runs the bundle of a number runs one of 1 to 32 tasks
-abbrev pub HasTasks : Command → Type 0
-HasTasks (Drill seed tasks) = (1 ≤ tasks) × (tasks ≤ 32)
-HasTasks (LintDrill seed tasks) = (1 ≤ tasks) × (tasks ≤ 32)
-HasTasks command = ⊤

@@ -4,6 +4,7 @@ use Rattle.std.specs.List.{AllByRecursion}
 use Rattle.isa_model.specs.Limits.{max_action_bound}
 use Rattle.hart_model.specs.declared.probe.Probe.{Probe}
 use Rattle.core_model.specs.declared.loaded.Loaded.{Loaded}
+use Rattle.core_model.specs.Loaded.{IsLoaded}
 use Rattle.core_model.specs.KernelWords.{KernelCodeState}
 use Rattle.core_model.specs.Core.{CoreState, core_after}
 use Rattle.core_model.specs.Orders.{boot_pace, fine_of, IsLegal}
@@ -34,6 +35,7 @@ drill_actions = max_action_bound
 -- The core was told an order of hart 0 alone, and its keeper stands for the log so far; an entry took at most 30,000 of its room.
 pub record IsDrilling {K : Type 0} (stands : K → List Probe → Type 0) (room_of : K → ℕ) (kernel : KernelParts) (loaded : Loaded) (done : List ℕ)
     (c : CoreValue K) : Type 0 where
+  pub is_loaded : IsLoaded loaded
   pub core : IsPacedCoreOf (ordered loaded kernel done) c
   pub legal : IsLegal loaded kernel.code done
   pub alone : AllByRecursion (λ hart. hart ≡ 0) done

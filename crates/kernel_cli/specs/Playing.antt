@@ -4,6 +4,7 @@ use Rattle.std.specs.declared.alloc.Global.{Global}
 use Rattle.hart_model.specs.declared.probe.Probe.{Probe}
 use Rattle.core_model.specs.declared.event.Event.{Event}
 use Rattle.core_model.specs.declared.loaded.Loaded.{Loaded}
+use Rattle.core_model.specs.Loaded.{IsLoaded}
 use Rattle.core_model.specs.Events.{events_of, order_of}
 use Rattle.core_model.specs.KernelWords.{kernel_code}
 use Rattle.core_model.specs.Core.{CoreState, core_after}
@@ -13,7 +14,7 @@ use Rattle.order_laws.specs.CoarseRuns.{coarse_state}
 use Rattle.order_laws.specs.LongLogs.{is_log_above}
 use Rattle.order_laws.specs.Judging.{OrderEnd, Done, Illegal, Full, end_from}
 use Rattle.probe_log.specs.Kept.{Kept}
-use Rattle.kernel_core.specs.History.{History, CoreValue, IsCoreOf}
+use Rattle.kernel_core.specs.History.{History, history_at_boot, CoreValue, IsCoreOf}
 use Rattle.kernel_core.specs.PacedHistory.{PacedHistory, IsPacedCoreOf, ordered}
 use Rattle.kernel_cli.specs.declared.replays.OrderFault.{OrderFault}
 use Rattle.kernel_cli.specs.declared.replays.OrderFault.TheVariants as faults
@@ -22,7 +23,7 @@ use Rattle.kernel_cli.specs.Replays.{replay_events, replay_end}
 
 -- these events of a loaded bundle, under the kernel's own code, and the core after them
 abbrev pub told_of : Loaded → List Event → History
-told_of loaded events = record { loaded = loaded; kernel = emitted_parts; events = events }
+told_of loaded events = record (history_at_boot loaded emitted_parts) { events = events }
 
 abbrev pub core_by : Loaded → List Event → CoreState
 core_by loaded events = core_after loaded kernel_code events
@@ -56,6 +57,7 @@ told_order loaded order = ordered loaded emitted_parts order
 -- how it ends from here on, at this place.
 pub record StandsAlong {K : Type 0} (stands : K → List Probe → Type 0) (room_of : K → ℕ) (most : ℕ) (loaded : Loaded) (at : ℕ) (left : List ℕ)
     (c : CoreValue K) : Type 0 where
+  pub is_loaded : IsLoaded loaded
   pub done : List ℕ
   pub all : done ++ left ≡ order_of loaded.order
   pub place : at ≡ length done

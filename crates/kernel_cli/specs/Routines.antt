@@ -1,15 +1,12 @@
--- What the input of `lint` is read as, and its answer, as the code has them.
-use Rattle.std.specs.Prelude.{◌≡◌, ℕ, ◌≤◌, List, length, Some, Result, Ok, Err}
+-- What the input of `lint` is read as, as the code has it.
+use Rattle.std.specs.Prelude.{◌≡◌, ℕ, ◌≤◌, List, length, Result, Ok, Err}
 use Rattle.isa_model.specs.Limits.{max_code_words}
 use Rattle.scrub_rules.specs.Parts.{Parts}
 use Rattle.scrub_rules.specs.Broken.{AreAcceptedParts, IsFirstBroken}
 use Rattle.scrub_rules.specs.declared.rule.RuleFault.{RuleFault}
-use Rattle.kernel_cli.specs.declared.command.Command.{Command}
 use Rattle.kernel_cli.specs.declared.answer.Response.{Response}
-use Rattle.kernel_cli.specs.Answer.{Answer, refused, judged, words_answer, routine_answer, answer_of}
-use Rattle.kernel_cli.specs.Findings.{Finding}
-use Rattle.kernel_cli.specs.Found.{IsFound}
-use Rattle.kernel_cli.specs.Lints.{words_in, refused_text}
+use Rattle.kernel_cli.specs.Answer.{Answer, refused, judged}
+use Rattle.kernel_cli.specs.Lints.{words_in, words_answer, routine_answer, refused_text}
 use Rattle.kernel_cli.specs.Outcome.{IsAnswer}
 
 -- the words that were decided, or the answer with the line that refuses them
@@ -44,7 +41,3 @@ pub record IsNoRoutine (bytes : List ℕ) (response : Response) : Type 0 where
 abbrev pub IsRoutineIn : List ℕ → Result Parts Response → Type 0
 IsRoutineIn bytes (Ok parts) = IsRoutineOf bytes parts
 IsRoutineIn bytes (Err response) = IsNoRoutine bytes response
-
--- the answer to a command over these bytes, and over what it finds of them
-abbrev pub IsAnswerOver : Command → List ℕ → Response → Type 0
-IsAnswerOver command bytes response = (found : Finding) × IsFound (Some command) bytes found × IsAnswer response (answer_of (Some command) found bytes)

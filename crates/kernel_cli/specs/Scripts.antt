@@ -1,5 +1,5 @@
 -- What the core of a bundle comes to by a list of events, and whether its log can be kept.
-use Rattle.std.specs.Prelude.{◌≡◌, ◌↔◌, ℕ, ◌<◌, Bool, true, List, ◌∷◌, ◌++◌, length}
+use Rattle.std.specs.Prelude.{◌≡◌, ◌↔◌, ℕ, ◌<◌, Bool, true, List, ◌∷◌, ◌++◌, length, Option, Some, None, if◌then◌else◌}
 use Rattle.hart_model.specs.declared.probe.Probe.{Probe}
 use Rattle.core_model.specs.declared.event.Event.{Event}
 use Rattle.core_model.specs.declared.loaded.Loaded.{Loaded}
@@ -8,6 +8,8 @@ use Rattle.core_model.specs.KernelWords.{kernel_code}
 use Rattle.core_model.specs.Core.{boot_core, core_after, log_of}
 use Rattle.order_laws.specs.LongLogs.{is_log_above}
 use Rattle.kernel_core.specs.Snapshots.{snapshot_of}
+use Rattle.report_text.specs.Explanations.{explain_text_of}
+use Rattle.report_text.specs.Listing.{listing_of}
 use Rattle.report_text.specs.Report.{report_of}
 
 -- the report of the core after these events
@@ -40,6 +42,17 @@ is_script_above most loaded = is_log_above most kernel_code.words (boot_core loa
 -- The log is full: before one of the events it has more than 999,994 entries, so that of its room for 1,000,000 fewer than six are left.
 abbrev pub is_log_full : Loaded → Bool
 is_log_full loaded = is_script_above most_before loaded
+
+-- the text of a log, and the report, unless the log is full
+abbrev pub logged_text : Loaded → List ℕ → Option (List ℕ)
+logged_text loaded text = if is_log_full loaded then None else Some (text ++ script_report loaded)
+
+-- the log's entries, and what they show of the tasks
+abbrev pub probes_text : Loaded → Option (List ℕ)
+probes_text loaded = logged_text loaded (listing_of (script_log loaded))
+
+abbrev pub explanations_text : Loaded → Option (List ℕ)
+explanations_text loaded = logged_text loaded (explain_text_of loaded.tasks (script_log loaded))
 
 -- The events of the bundle are a front, one event more and a rest, and the log of the front has more than 999,994 entries.
 pub record HasLongLog (loaded : Loaded) : Type 0 where

@@ -4,8 +4,10 @@ ghost use Rattle.std.specs.Prelude.{◌≡◌, ◌↔◌, ℕ, List, Some};
 ghost use Rattle.kernel_cli.specs.Commands.{SpellsCommand, command_of};
 ghost use Rattle.kernel_cli.specs.DrillLaws.{DrillOrdersAreOne, DrillsEndAll};
 ghost use Rattle.kernel_cli.specs.Scripts.{LogIsFullExactly};
-ghost use Rattle.kernel_cli.specs.Soundness.{AreCoresSound, AreGeneratedCoresSound, AreLintedCoresSound};
-ghost use Rattle.kernel_cli.specs.Found.{SecureTasksStaySecure};
+ghost use Rattle.kernel_cli.specs.RunLaws.{RunTextsTellOrders};
+ghost use Rattle.kernel_cli.specs.Soundness.{AreKernelsSound, AreCoresSound, AreGeneratedCoresSound, AreLintedCoresSound};
+ghost use Rattle.kernel_cli.specs.Security.{SecureTasksStaySecure};
+ghost use Rattle.kernel_cli.specs.TopCall.{AreWorksSound};
 ghost use Rattle.kernel_cli.specs.declared.command.Command.{Command};
 
 use core_invariant::{
@@ -13,7 +15,9 @@ use core_invariant::{
     outputs_stay_beginnings,
 };
 use noninterference::emitted_is_alike;
+use order_laws::alike_bundles_run_alike;
 use probing_laws::{security_transfers, two_worlds_agree};
+use report_laws::run_reports_tell_orders;
 use routine_laws::accepted_routines_do;
 use rv_loader::loading_is_sound;
 
@@ -27,17 +31,26 @@ pub fn log_is_full_exactly()
     ensures full { LogIsFullExactly }
 {}
 
-/// The core of every bundle that bytes are read as and that loads for some number of harts from 1 to 8 is sound after every list of events,
-/// each task has exactly one home in it, and what a task has put out is a beginning of its output alone.
-pub fn cores_are_sound()
-    ensures sound { AreCoresSound }
+/// The core of every bundle that is loaded is sound after every list of events, under every kernel whose parts do alike on harts that are alike:
+/// each task has exactly one home in it, what a task has put out is a beginning of its output alone, no hart is wedged, and bundles that are
+/// alike leave logs that agree publicly, and run alike by every order.
+pub fn kernels_are_sound()
+    ensures sound { AreKernelsSound }
 {
-    loading_is_sound();
     core_stays_sound();
     outputs_stay_beginnings();
     each_task_has_one_home();
     no_hart_wedges();
     two_worlds_agree();
+    alike_bundles_run_alike();
+}
+
+/// So is the core of every bundle that bytes are read as and that loads for some number of harts from 1 to 8, under the kernel of this project.
+pub fn cores_are_sound()
+    ensures sound { AreCoresSound }
+{
+    loading_is_sound();
+    kernels_are_sound();
     emitted_is_kernel();
     emitted_is_alike();
 }
@@ -53,16 +66,12 @@ pub fn secure_tasks_stay_secure()
     emitted_is_alike();
 }
 
-/// So is the core of the bundle of every number, with at most 32 tasks and loaded for one hart.
+/// The core of the bundle of every number is sound too, with at most 32 tasks and loaded for one hart.
 pub fn generated_cores_are_sound()
     ensures sound { AreGeneratedCoresSound }
 {
     loading_is_sound();
-    core_stays_sound();
-    outputs_stay_beginnings();
-    each_task_has_one_home();
-    no_hart_wedges();
-    two_worlds_agree();
+    kernels_are_sound();
     emitted_is_kernel();
     emitted_is_alike();
 }
@@ -72,12 +81,25 @@ pub fn linted_cores_are_sound()
     ensures sound { AreLintedCoresSound }
 {
     loading_is_sound();
-    core_stays_sound();
-    outputs_stay_beginnings();
-    each_task_has_one_home();
-    no_hart_wedges();
-    two_worlds_agree();
+    kernels_are_sound();
     accepted_routines_do();
+}
+
+/// So is the core of every work of words, whatever bytes the source has.
+pub fn works_are_sound()
+    ensures sound { AreWorksSound }
+{
+    cores_are_sound();
+    generated_cores_are_sound();
+    linted_cores_are_sound();
+}
+
+/// The text of a run on threads tells its order: two orders that harts may make of a loaded bundle and that have one text are one order.
+pub fn run_texts_tell_orders()
+    ensures orders { RunTextsTellOrders }
+{
+    run_reports_tell_orders();
+    emitted_is_kernel();
 }
 
 /// A bundle has one order of hart 0 alone at most that lets hart 0 find nothing. So there is one text of a drill.

@@ -1,20 +1,22 @@
 //! The check of a routine of one's own, and the run of a bundle under a kernel that has it.
 
-ghost use Rattle.std.specs.Prelude.{◌≡◌, ◌≤◌, ◌<◌, ◌^◌, true, ℕ, List, ◌++◌, length, Ok, IfOk};
+ghost use Rattle.std.specs.Prelude.{◌≡◌, ◌≤◌, ◌<◌, ◌^◌, ℕ, List, ◌++◌, length, Ok, IfOk};
 ghost use Rattle.core_model.specs.KernelWords.{linked_code};
 ghost use Rattle.core_model.specs.Loaded.{IsLoaded};
-ghost use Rattle.kernel_cli.specs.Answer.{input_limit, judged, routine_accepted};
-ghost use Rattle.kernel_cli.specs.Commands.{reads_code, HasTasks};
+ghost use Rattle.kernel_cli.specs.Answer.{judged};
 ghost use Rattle.kernel_cli.specs.Drills.{IsDrillOrder, drill_report};
-ghost use Rattle.kernel_cli.specs.Lints.{rule_text, refused_text, words_of_lines, words_in};
-ghost use Rattle.kernel_cli.specs.Outcome.{IsAnswer};
-ghost use Rattle.kernel_cli.specs.Routines.{AreWordsOf, IsChecked, IsRoutineIn, IsAnswerOver};
-ghost use Rattle.kernel_cli.specs.declared.command.Command.TheVariants as commands;
+ghost use Rattle.kernel_cli.specs.Lints.{rule_text, refused_text, routine_accepted, words_of_lines, words_in};
+ghost use Rattle.kernel_cli.specs.Outcome.{IsAnswer, IsAnswerOver};
+ghost use Rattle.kernel_cli.specs.Routines.{AreWordsOf, IsChecked, IsRoutineIn};
+ghost use Rattle.kernel_cli.specs.Works.{IsTaskNumber, text_limit, HasCounts};
+ghost use Rattle.kernel_cli.specs.declared.work.CodeWork.TheVariants as lints;
+ghost use Rattle.kernel_cli.specs.declared.work.Work.TheVariants as works;
 
-use crate::answer::{Outcome, Response, done, load_generated};
-use crate::command::Command;
+use crate::answer::{Outcome, Response, done};
 use crate::drills::drill;
+use crate::generated::load_generated;
 use crate::refusals::{bundle_refusal, load_refusal};
+use crate::work::CodeWork;
 use bundle_text::{BundleKind, Line, text_lines};
 use core_model::Loaded;
 use isa_model::Words;
@@ -81,7 +83,7 @@ fn accepted_and_drilled(
 
 /// The words that lines of code assemble to, or the refusal.
 fn assembled(alloc: Global, lines: &[Line]) -> Result<Result<Words, Response>, AllocError>
-    requires few { length lines.now ≤ input_limit }
+    requires few { length lines.now ≤ text_limit }
     ensures words { IfOk result (AreWordsOf (words_of_lines (Ok lines.now))) }
 {
     match code_words(alloc, lines, 1) {
@@ -96,7 +98,7 @@ fn assembled(alloc: Global, lines: &[Line]) -> Result<Result<Words, Response>, A
 
 /// The words that an input within the limit assembles to, or the refusal.
 fn words_in(alloc: Global, bytes: &[u8]) -> Result<Result<Words, Response>, AllocError>
-    requires limit { length bytes.now ≤ input_limit }
+    requires limit { length bytes.now ≤ text_limit }
     ensures words { IfOk result (AreWordsOf (words_in bytes.now)) }
 {
     match text_lines(alloc, bytes) {
@@ -131,7 +133,7 @@ fn checked(alloc: Global, words: &[u32]) -> Result<Result<Checked, Response>, Al
 
 /// The routine of an input within the limit, or the answer to `lint` without one.
 fn routine_in(alloc: Global, bytes: &[u8]) -> Result<Result<Checked, Response>, AllocError>
-    requires limit { length bytes.now ≤ input_limit }
+    requires limit { length bytes.now ≤ text_limit }
     ensures routine { IfOk result (IsRoutineIn bytes.now) }
 {
     match words_in(alloc, bytes)? {
@@ -142,8 +144,8 @@ fn routine_in(alloc: Global, bytes: &[u8]) -> Result<Result<Checked, Response>, 
 
 /// The answer to `lint` over an input within the limit.
 fn answer_lint(alloc: Global, bytes: &[u8]) -> Result<Response, AllocError>
-    requires limit { length bytes.now ≤ input_limit }
-    ensures answer { IfOk result (IsAnswerOver commands.Lint bytes.now) }
+    requires limit { length bytes.now ≤ text_limit }
+    ensures answer { IfOk result (IsAnswerOver (works.Code lints.Lint) bytes.now) }
 {
     match routine_in(alloc, bytes)? {
         Ok(routine) => Ok(done(accepted(alloc, &routine)?)),
@@ -158,10 +160,9 @@ fn answer_lint_drill(
     tasks: u32,
     bytes: &[u8],
 ) -> Result<Response, AllocError>
-    requires limit { length bytes.now ≤ input_limit }
-    requires some { 1 ≤ tasks }
-    requires few { tasks ≤ 32 }
-    ensures answer { IfOk result (IsAnswerOver (commands.LintDrill seed tasks) bytes.now) }
+    requires limit { length bytes.now ≤ text_limit }
+    requires tasks { IsTaskNumber tasks }
+    ensures answer { IfOk result (IsAnswerOver (works.Code (lints.LintDrill seed tasks)) bytes.now) }
 {
     match routine_in(alloc, bytes)? {
         Ok(routine) => {
@@ -172,28 +173,18 @@ fn answer_lint_drill(
     }
 }
 
-/// The answer to a command that reads code, over an input within the limit.
+/// The answer to a work over code, over an input within its limit.
 pub(crate) fn answer_code(
     alloc: Global,
-    command: Command,
+    work: CodeWork,
     bytes: &[u8],
 ) -> Result<Response, AllocError>
-    requires code { reads_code command ≡ true }
-    requires tasks { HasTasks command }
-    requires limit { length bytes.now ≤ input_limit }
-    ensures answer { IfOk result (IsAnswerOver command bytes.now) }
+    requires limit { length bytes.now ≤ text_limit }
+    requires counts { HasCounts (works.Code work) }
+    ensures answer { IfOk result (IsAnswerOver (works.Code work) bytes.now) }
 {
-    match command {
-        Command::Lint => answer_lint(alloc, bytes),
-        Command::LintDrill { seed, tasks } => answer_lint_drill(alloc, seed, tasks, bytes),
-        Command::Alone => unreachable!(),
-        Command::Asm => unreachable!(),
-        Command::Run { .. } => unreachable!(),
-        Command::Script { .. } => unreachable!(),
-        Command::Replay { .. } => unreachable!(),
-        Command::Explain => unreachable!(),
-        Command::Certify => unreachable!(),
-        Command::Gen { .. } => unreachable!(),
-        Command::Drill { .. } => unreachable!(),
+    match work {
+        CodeWork::Lint => answer_lint(alloc, bytes),
+        CodeWork::LintDrill { seed, tasks } => answer_lint_drill(alloc, seed, tasks, bytes),
     }
 }

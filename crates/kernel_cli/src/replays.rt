@@ -7,9 +7,13 @@ ghost use Rattle.isa_model.specs.Limits.{max_order_entries};
 ghost use Rattle.core_model.specs.Loaded.{IsLoaded};
 ghost use Rattle.report_text.specs.Listing.{listing_of};
 ghost use Rattle.kernel_cli.specs.Scripts.{entries_each, most_before};
-ghost use Rattle.kernel_cli.specs.Replays.{replay_end, replay_report, replay_log};
+ghost use Rattle.order_laws.specs.Judging.{OrderEnd};
+ghost use Rattle.kernel_cli.specs.Outcome.{IsAnswer};
+ghost use Rattle.kernel_cli.specs.Replays.{replay_end, replay_report, replay_log, order_answer, replay_answer};
 ghost use Rattle.kernel_cli.specs.Playing.{StandsAlong, IsEndBy, IsReplayed, IsReplay};
 
+use crate::answer::{Outcome, Response, done, logged};
+use crate::refusals::order_refusal;
 use crate::scripts::{LOG_ROOM, core_report, log_and_report};
 use core_invariant::emitted_is_kernel;
 use core_model::{Loaded, OrderRun, counts_are_lengths};
@@ -113,7 +117,7 @@ fn replay_core<K: Keeper>(alloc: Global, loaded: &Loaded, keeper: K) -> Result<C
 }
 
 /// The report of the core after the order, of whose log counts are kept alone.
-pub(crate) fn replay(alloc: Global, loaded: &Loaded) -> Result<Vec<u8>, OrderFault>
+fn replay(alloc: Global, loaded: &Loaded) -> Result<Vec<u8>, OrderFault>
     requires loaded { IsLoaded loaded.now }
     ensures text { IsReplay (replay_end None loaded.now) (replay_report loaded.now) result }
 {
@@ -124,10 +128,42 @@ pub(crate) fn replay(alloc: Global, loaded: &Loaded) -> Result<Vec<u8>, OrderFau
 }
 
 /// The entries of the log and the report, unless the log is full.
-pub(crate) fn replay_probes(alloc: Global, loaded: &Loaded) -> Result<Vec<u8>, OrderFault>
+fn replay_probes(alloc: Global, loaded: &Loaded) -> Result<Vec<u8>, OrderFault>
     requires loaded { IsLoaded loaded.now }
     ensures text { IsReplay (replay_end (Some most_before) loaded.now) (listing_of (replay_log loaded.now) ++ replay_report loaded.now) result }
 {
     let core = replay_core(alloc, loaded, Packed::new(alloc, LOG_ROOM)?)?;
     Ok(log_and_report(alloc, loaded, &core)?)
+}
+
+/// The answer of a run by an order: its text, or why it didn't come to its end.
+fn replayed(alloc: Global, text: Result<Vec<u8>, OrderFault>) -> Result<Response, AllocError>
+    ensures answer { IfOk result (λ response. (end : OrderEnd) (whole : List ℕ) → IsReplay end whole text
+        → IsAnswer response (order_answer end whole)) }
+{
+    match text {
+        Ok(text) => Ok(done(text)),
+        Err(OrderFault::Bad { at }) => Ok(Response {
+            outcome: Outcome::BadInput,
+            text: order_refusal(alloc, at)?.into_bytes(),
+        }),
+        Err(OrderFault::LogFull) => logged(alloc, None),
+        Err(OrderFault::Memory) => Err(AllocError),
+    }
+}
+
+/// The answer to `replay` over a loaded bundle.
+pub(crate) fn answer_replay(
+    alloc: Global,
+    probes: bool,
+    loaded: &Loaded,
+) -> Result<Response, AllocError>
+    requires loaded { IsLoaded loaded.now }
+    ensures answer { IfOk result (λ response. IsAnswer response (replay_answer probes loaded.now)) }
+{
+    if probes {
+        replayed(alloc, replay_probes(alloc, loaded))
+    } else {
+        replayed(alloc, replay(alloc, loaded))
+    }
 }

@@ -7,9 +7,8 @@ ghost use Rattle.core_model.specs.Loaded.{IsLoaded};
 ghost use Rattle.core_model.specs.declared.event.Event.{Event as CoreEvent};
 ghost use Rattle.core_model.specs.Events.{events_of};
 ghost use Rattle.report_text.specs.Listing.{listing_of};
-ghost use Rattle.kernel_cli.specs.Scripts.{log_by, report_by, script_report, is_script_above, entries_each};
+ghost use Rattle.kernel_cli.specs.Scripts.{log_by, report_by, script_report, is_script_above, entries_each, probes_text, explanations_text};
 ghost use Rattle.kernel_cli.specs.Playing.{IsPlayed, HasEntries};
-ghost use Rattle.kernel_cli.specs.Answer.{probes_text, explanations_text};
 
 use core_model::{EventRun, Loaded, counts_are_lengths};
 use kernel_core::Core;

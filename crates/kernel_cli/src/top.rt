@@ -1,41 +1,25 @@
 //! The top call.
 
-ghost use Rattle.std.specs.Prelude.{◌≡◌, ◌⊎◌, ◌≤◌, ℕ, true, List, Some, Ok, IfOk, IfErr, map, string_bytes};
-ghost use Rattle.hart_runner.specs.Finishing.{IsFinished};
-ghost use Rattle.kernel_cli.specs.declared.status.Status.TheVariants as statuses;
-ghost use Rattle.kernel_cli.specs.Replays.{order_report};
-ghost use Rattle.kernel_cli.specs.Found.{IsRunOrder};
-ghost use Rattle.kernel_cli.specs.Commands.{IsHartCount, harts_of, command_of, reads_source, reads_code, reads_bundle, HasTasks, served_by_one, served_by_threads};
-ghost use Rattle.kernel_cli.specs.Answer.{gen_answer};
-ghost use Rattle.core_model.specs.KernelWords.{kernel_code};
-ghost use Rattle.kernel_cli.specs.Drills.{IsDrillOrder, drill_report};
-ghost use Rattle.core_model.specs.declared.loaded.Loaded.{Loaded as LoadedBundle};
-ghost use Rattle.rv_loader.specs.Loading.{loading_of};
-ghost use Rattle.masked_gen.specs.Generator.{generated};
-ghost use Rattle.kernel_cli.specs.Outcome.{status_of};
+ghost use Rattle.std.specs.Prelude.{◌≡◌, true, Some, IfOk, IfErr, map, string_bytes};
 ghost use Rattle.io_edge.specs.Gone.{source_tells, sink_tells};
-ghost use Rattle.kernel_cli.specs.TopCall.{WritesOrFails, WasInput, WasLoaded, IsAnswered};
+ghost use Rattle.kernel_cli.specs.Outcome.{status_of};
+ghost use Rattle.kernel_cli.specs.TopCall.{WritesOrFails, WasInput, IsAnswered};
+ghost use Rattle.kernel_cli.specs.Works.{work_in, reads, limit_of, HasCounts, served_by_one, served_by_threads};
+ghost use Rattle.kernel_cli.specs.declared.status.Status.TheVariants as statuses;
+ghost use Rattle.kernel_cli.specs.declared.work.Work.TheVariants as works;
 
-use crate::answer::{
-    Response, answer_drill, answer_finished, answer_gen, answer_loaded, harts_of, read_loaded,
-    status_of,
-};
-use crate::command::{Command, read_words};
-use crate::laws::{
-    commands_are_decided, cores_are_sound, generated_cores_are_sound, linted_cores_are_sound,
-    secure_tasks_stay_secure,
-};
+use crate::answer::{Response, status_of};
+use crate::bundles::answer_bundle;
+use crate::generated::answer_generated;
+use crate::laws::{secure_tasks_stay_secure, works_are_sound};
 use crate::lints::answer_code;
+use crate::runs::answer_on_threads;
 use crate::status::Status;
-use core_model::Loaded;
-use hart_runner::{Finished, Unfinished, run_threads};
+use crate::work::{BundleWork, CodeWork, ThreadWork, Work, limit_of, read_thread_work, read_work};
 use io_edge::{Gate, ReadEnd, Sink, Source, read_all, write_all};
-use std::alloc::Global;
+use std::alloc::{AllocError, Global};
 use std::sync::Wait;
 use std::thread::Threads;
-
-/// How many bytes of input are read as a bundle at most.
-const INPUT_LIMIT: usize = 4_194_304;
 
 /// Writes a text and ends with its status, or with a write fault.
 fn put<K: Sink>(sink: &mut K, text: &[u8], status: Status) -> Status
@@ -47,30 +31,32 @@ fn put<K: Sink>(sink: &mut K, text: &[u8], status: Status) -> Status
     }
 }
 
-/// Writes an answer and ends with its status, or with a write fault.
-fn put_answer<K: Sink>(sink: &mut K, response: &Response) -> Status
-    ensures written { WritesOrFails (status_of response.now.outcome) (sink_tells K.held K.taken sink.old) (sink_tells K.held K.taken sink.new) (K.faults sink.old) (K.faults sink.new) response.now.text.items result }
+/// Writes an answer and ends with its status, or with a write fault; or memory ran out before there was one.
+fn put_answer<K: Sink>(sink: &mut K, answer: Result<Response, AllocError>) -> Status
+    ensures written { IfOk answer (λ response. WritesOrFails (status_of response.outcome) (sink_tells K.held K.taken sink.old) (sink_tells K.held K.taken sink.new) (K.faults sink.old) (K.faults sink.new) response.text.items result) }
+    ensures memory { IfErr answer (λ _. (sink.new ≡ sink.old) × (result ≡ statuses.Memory)) }
 {
-    put(sink, response.text.as_slice(), status_of(response.outcome))
+    match answer {
+        Ok(response) => put(sink, response.text.as_slice(), status_of(response.outcome)),
+        Err(_) => Status::Memory,
+    }
 }
 
-/// The bytes that the source gives, if they are within the limit; or the status, where that is the end of the command.
+/// The bytes that the source gives, if they are within the limit of a work; or the status, where that is its end.
 fn read_input<S: Source, K: Sink>(
     alloc: Global,
-    command: Command,
+    work: Work,
     src: &mut S,
     sink: &mut K,
 ) -> Result<Vec<u8>, Status>
-    requires harts { IsHartCount (harts_of command) }
-    requires tasks { HasTasks command }
-    requires reads { reads_source (Some command) ≡ true }
-    ensures read { IfOk result (λ bytes. WasInput (source_tells S.left S.given S.ended src.old) (source_tells S.left S.given S.ended src.new) bytes.items) }
+    requires counts { HasCounts work }
+    requires reads { reads work ≡ true }
+    ensures read { IfOk result (λ bytes. WasInput (limit_of (Some work)) (source_tells S.left S.given S.ended src.old) (source_tells S.left S.given S.ended src.new) bytes.items) }
     ensures kept { IfOk result (λ bytes. sink.new ≡ sink.old) }
-    ensures answered { IfErr result (IsAnswered (source_tells S.left S.given S.ended) S.faults (sink_tells K.held K.taken) K.faults (Some command) src.old src.new sink.old sink.new) }
+    ensures answered { IfErr result (IsAnswered (source_tells S.left S.given S.ended) S.faults (sink_tells K.held K.taken) K.faults (Some work) src.old src.new sink.old sink.new) }
 {
-    cores_are_sound();
-    linted_cores_are_sound();
-    match read_all(alloc, src, INPUT_LIMIT) {
+    works_are_sound();
+    match read_all(alloc, src, limit_of(work)) {
         Err(ReadEnd::ReadFault) => Err(Status::ReadFault),
         Err(ReadEnd::Memory) => Err(Status::Memory),
         Err(ReadEnd::TooLarge) => Err(put(sink, b"too large\n", Status::BadInput)),
@@ -78,121 +64,57 @@ fn read_input<S: Source, K: Sink>(
     }
 }
 
-/// What the bundle that the source gives loads as for a command; or the status, where that is the end of the command.
-fn load_input<S: Source, K: Sink>(
+/// Does a work over the bundle that the source gives.
+fn do_bundle<S: Source, K: Sink>(
     alloc: Global,
-    command: Command,
-    src: &mut S,
-    sink: &mut K,
-) -> Result<Loaded, Status>
-    requires harts { IsHartCount (harts_of command) }
-    requires tasks { HasTasks command }
-    requires reads { reads_bundle command ≡ true }
-    ensures loaded { IfOk result (WasLoaded (harts_of command) (source_tells S.left S.given S.ended src.old) (source_tells S.left S.given S.ended src.new)) }
-    ensures kept { IfOk result (λ loaded. sink.new ≡ sink.old) }
-    ensures answered { IfErr result (IsAnswered (source_tells S.left S.given S.ended) S.faults (sink_tells K.held K.taken) K.faults (Some command) src.old src.new sink.old sink.new) }
-{
-    cores_are_sound();
-    linted_cores_are_sound();
-    secure_tasks_stay_secure();
-    match read_input(alloc, command, src, sink) {
-        Err(status) => Err(status),
-        Ok(bytes) => match read_loaded(alloc, harts_of(command), bytes.as_slice()) {
-            Err(_) => Err(Status::Memory),
-            Ok(Err(response)) => Err(put_answer(sink, &response)),
-            Ok(Ok(loaded)) => Ok(loaded),
-        },
-    }
-}
-
-/// Does a command over the code that the source gives.
-fn do_code<S: Source, K: Sink>(alloc: Global, command: Command, src: &mut S, sink: &mut K) -> Status
-    requires harts { IsHartCount (harts_of command) }
-    requires tasks { HasTasks command }
-    requires code { reads_code command ≡ true }
-    ensures answered { IsAnswered (source_tells S.left S.given S.ended) S.faults (sink_tells K.held K.taken) K.faults (Some command) src.old src.new sink.old sink.new result }
-{
-    cores_are_sound();
-    linted_cores_are_sound();
-    secure_tasks_stay_secure();
-    match read_input(alloc, command, src, sink) {
-        Err(status) => status,
-        Ok(bytes) => match answer_code(alloc, command, bytes.as_slice()) {
-            Err(_) => Status::Memory,
-            Ok(response) => put_answer(sink, &response),
-        },
-    }
-}
-
-/// Does a command that one thread does over the bundle that the source gives.
-fn do_command<S: Source, K: Sink>(
-    alloc: Global,
-    command: Command,
+    work: BundleWork,
     src: &mut S,
     sink: &mut K,
 ) -> Status
-    requires served { served_by_one (Some command) ≡ Some command }
-    requires harts { IsHartCount (harts_of command) }
-    requires tasks { HasTasks command }
-    requires reads { reads_bundle command ≡ true }
-    ensures answered { IsAnswered (source_tells S.left S.given S.ended) S.faults (sink_tells K.held K.taken) K.faults (Some command) src.old src.new sink.old sink.new result }
+    requires counts { HasCounts (works.Bundle work) }
+    ensures answered { IsAnswered (source_tells S.left S.given S.ended) S.faults (sink_tells K.held K.taken) K.faults (Some (works.Bundle work)) src.old src.new sink.old sink.new result }
 {
-    cores_are_sound();
-    linted_cores_are_sound();
+    works_are_sound();
     secure_tasks_stay_secure();
-    match load_input(alloc, command, src, sink) {
+    match read_input(alloc, Work::Bundle(work), src, sink) {
+        Ok(bytes) => put_answer(sink, answer_bundle(alloc, work, bytes.as_slice())),
         Err(status) => status,
-        Ok(loaded) => match answer_loaded(alloc, command, &loaded) {
-            Err(_) => Status::Memory,
-            Ok(response) => put_answer(sink, &response),
-        },
     }
 }
 
-/// Writes the bundle of a number and ends fine, or with a write fault; or memory ran out before.
-fn put_generated<K: Sink>(alloc: Global, seed: u64, tasks: u32, sink: &mut K) -> Status
-    ensures written { (sink.new ≡ sink.old) × (result ≡ statuses.Memory)
-        ⊎ WritesOrFails statuses.Fine (sink_tells K.held K.taken sink.old) (sink_tells K.held K.taken sink.new) (K.faults sink.old) (K.faults sink.new) (gen_answer seed tasks).text result }
+/// Does a work over the code that the source gives.
+fn do_code<S: Source, K: Sink>(alloc: Global, work: CodeWork, src: &mut S, sink: &mut K) -> Status
+    requires counts { HasCounts (works.Code work) }
+    ensures answered { IsAnswered (source_tells S.left S.given S.ended) S.faults (sink_tells K.held K.taken) K.faults (Some (works.Code work)) src.old src.new sink.old sink.new result }
 {
-    match answer_gen(alloc, seed, tasks) {
-        Err(_) => Status::Memory,
-        Ok(response) => put_answer(sink, &response),
+    works_are_sound();
+    secure_tasks_stay_secure();
+    match read_input(alloc, Work::Code(work), src, sink) {
+        Ok(bytes) => put_answer(sink, answer_code(alloc, work, bytes.as_slice())),
+        Err(status) => status,
     }
 }
 
-/// Writes the report of the run of a bundle of a number and ends fine, or with a write fault; or memory ran out before.
-fn put_drilled<K: Sink>(alloc: Global, seed: u64, tasks: u32, sink: &mut K) -> Status
-    requires some { 1 ≤ tasks }
-    requires few { tasks ≤ 32 }
-    ensures written { (sink.new ≡ sink.old) × (result ≡ statuses.Memory)
-        ⊎ (loaded : LoadedBundle) × (loading_of (generated seed tasks) 1 ≡ Ok loaded) × (order : List ℕ) × IsDrillOrder kernel_code loaded order
-        × WritesOrFails statuses.Fine (sink_tells K.held K.taken sink.old) (sink_tells K.held K.taken sink.new) (K.faults sink.old) (K.faults sink.new) (drill_report kernel_code loaded order) result }
-{
-    match answer_drill(alloc, seed, tasks) {
-        Err(_) => Status::Memory,
-        Ok(response) => put_answer(sink, &response),
-    }
-}
-
-/// Does a command that one thread does.
-fn do_served<S: Source, K: Sink>(
+/// Does a work on threads over the bundle that the source gives.
+fn do_threads<R: Threads + Wait + Sync, S: Source, K: Sink, G: Gate>(
+    rt: &R,
     alloc: Global,
-    command: Command,
+    work: ThreadWork,
     src: &mut S,
     sink: &mut K,
+    gate: &G,
 ) -> Status
-    requires served { served_by_one (Some command) ≡ Some command }
-    requires harts { IsHartCount (harts_of command) }
-    requires tasks { HasTasks command }
-    ensures answered { IsAnswered (source_tells S.left S.given S.ended) S.faults (sink_tells K.held K.taken) K.faults (Some command) src.old src.new sink.old sink.new result }
+    requires counts { HasCounts (works.Threads work) }
+    ensures answered { IsAnswered (source_tells S.left S.given S.ended) S.faults (sink_tells K.held K.taken) K.faults (Some (works.Threads work)) src.old src.new sink.old sink.new result }
 {
-    generated_cores_are_sound();
-    match command {
-        Command::Gen { seed, tasks } => put_generated(alloc, seed, tasks, sink),
-        Command::Drill { seed, tasks } => put_drilled(alloc, seed, tasks, sink),
-        Command::Lint => do_code(alloc, command, src, sink),
-        Command::LintDrill { .. } => do_code(alloc, command, src, sink),
-        other => do_command(alloc, other, src, sink),
+    works_are_sound();
+    secure_tasks_stay_secure();
+    match read_input(alloc, Work::Threads(work), src, sink) {
+        Ok(bytes) => put_answer(
+            sink,
+            answer_on_threads(rt, alloc, gate, work, bytes.as_slice()),
+        ),
+        Err(status) => status,
     }
 }
 
@@ -208,32 +130,14 @@ pub fn one_thread<S: Source, K: Sink>(
     src: &mut S,
     sink: &mut K,
 ) -> Status
-    ensures answered { IsAnswered (source_tells S.left S.given S.ended) S.faults (sink_tells K.held K.taken) K.faults (served_by_one (command_of (map string_bytes words.now))) src.old src.new sink.old sink.new result }
+    ensures answered { IsAnswered (source_tells S.left S.given S.ended) S.faults (sink_tells K.held K.taken) K.faults (served_by_one (work_in (map string_bytes words.now))) src.old src.new sink.old sink.new result }
 {
-    commands_are_decided();
-    match read_words(words) {
-        None | Some(Command::Run { .. }) => put(sink, b"bad words\n", Status::BadWords),
-        Some(command) => do_served(alloc, command, src, sink),
-    }
-}
-
-/// The answer to `run`, where the harts have run the bundle to its end, or where memory ran out before.
-fn put_finished<K: Sink>(
-    alloc: Global,
-    loaded: &Loaded,
-    finished: Result<Finished, Unfinished>,
-    sink: &mut K,
-) -> Status
-    requires finished { IfOk finished (IsFinished loaded.now) }
-    ensures written { (sink.new ≡ sink.old) × (result ≡ statuses.Memory) ⊎ (order : List ℕ) × IsRunOrder loaded.now order
-        × WritesOrFails statuses.Fine (sink_tells K.held K.taken sink.old) (sink_tells K.held K.taken sink.new) (K.faults sink.old) (K.faults sink.new) (order_report loaded.now order) result }
-{
-    let Ok(finished) = finished else {
-        return Status::Memory;
-    };
-    match answer_finished(alloc, loaded, &finished) {
-        Err(_) => Status::Memory,
-        Ok(response) => put_answer(sink, &response),
+    works_are_sound();
+    match read_work(words) {
+        None | Some(Work::Threads(_)) => put(sink, b"bad words\n", Status::BadWords),
+        Some(Work::Bundle(work)) => do_bundle(alloc, work, src, sink),
+        Some(Work::Code(work)) => do_code(alloc, work, src, sink),
+        Some(Work::Generated(work)) => put_answer(sink, answer_generated(alloc, work)),
     }
 }
 
@@ -250,18 +154,11 @@ pub fn run_harts<R: Threads + Wait + Sync, S: Source, K: Sink, G: Gate>(
     sink: &mut K,
     gate: &G,
 ) -> Status
-    ensures answered { IsAnswered (source_tells S.left S.given S.ended) S.faults (sink_tells K.held K.taken) K.faults (served_by_threads (command_of (map string_bytes words.now))) src.old src.new sink.old sink.new result }
+    ensures answered { IsAnswered (source_tells S.left S.given S.ended) S.faults (sink_tells K.held K.taken) K.faults (served_by_threads (work_in (map string_bytes words.now))) src.old src.new sink.old sink.new result }
 {
-    commands_are_decided();
-    cores_are_sound();
-    linted_cores_are_sound();
-    secure_tasks_stay_secure();
-    let Some(Command::Run { harts }) = read_words(words) else {
-        return put(sink, b"bad words\n", Status::BadWords);
-    };
-    match load_input(alloc, Command::Run { harts }, src, sink) {
-        Err(status) => status,
-        Ok(loaded) => put_finished(alloc, &loaded, run_threads(rt, alloc, gate, &loaded), sink),
+    match read_thread_work(words) {
+        None => put(sink, b"bad words\n", Status::BadWords),
+        Some(work) => do_threads(rt, alloc, work, src, sink, gate),
     }
 }
 
@@ -275,10 +172,10 @@ pub fn msktask<R: Threads + Wait + Sync, S: Source, K: Sink, G: Gate>(
     sink: &mut K,
     gate: &G,
 ) -> Status
-    ensures answered { IsAnswered (source_tells S.left S.given S.ended) S.faults (sink_tells K.held K.taken) K.faults (command_of (map string_bytes words.now)) src.old src.new sink.old sink.new result }
+    ensures answered { IsAnswered (source_tells S.left S.given S.ended) S.faults (sink_tells K.held K.taken) K.faults (work_in (map string_bytes words.now)) src.old src.new sink.old sink.new result }
 {
-    match read_words(words) {
-        Some(Command::Run { .. }) => run_harts(rt, alloc, words, src, sink, gate),
+    match read_work(words) {
+        Some(Work::Threads(_)) => run_harts(rt, alloc, words, src, sink, gate),
         None | Some(_) => one_thread(alloc, words, src, sink),
     }
 }

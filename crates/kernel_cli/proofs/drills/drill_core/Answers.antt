@@ -8,7 +8,7 @@ use Rattle.kernel_cli.proofs.drills.drill_core.Goals as goal
 pub loop-core-init : goal.loop-core-init
 loop-core-init g c = (
   [],
-  boots g.K.Keeper.stands g.K.Keeper.room_of c.args.kernel c.args.loaded.now c.requires.harts c.args.keeper c.in_ok-core.core c.in_ok-core.ensures.paced c.in_ok-core.ensures.keeper
+  boots g.K.Keeper.stands g.K.Keeper.room_of c.args.kernel c.args.loaded.now c.requires.harts c.requires.loaded c.args.keeper c.in_ok-core.core c.in_ok-core.ensures.paced c.in_ok-core.ensures.keeper
       c.requires.empty c.in_ok-core.ensures.actions c.requires.room,
 )
 

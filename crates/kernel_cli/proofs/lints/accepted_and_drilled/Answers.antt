@@ -1,8 +1,8 @@
 -- The kernel is the one of the two parts.
 use Rattle.std.proofs.Common.{◌≡◌, ◌∙◌, ℕ, List, ◌++◌, ap, subst}
 use Rattle.core_invariant.specs.KernelStates.{KernelParts}
-use Rattle.kernel_cli.specs.Answer.{routine_accepted}
 use Rattle.kernel_cli.specs.Drills.{IsDrillOrder, drill_report}
+use Rattle.kernel_cli.specs.Lints.{routine_accepted}
 use Rattle.kernel_cli.proofs.lints.accepted_and_drilled.Goals as goal
 
 pub returns : goal.returns

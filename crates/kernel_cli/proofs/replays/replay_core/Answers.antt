@@ -9,7 +9,7 @@ pub loop-rest-init : goal.loop-rest-init
 loop-rest-init g c =
     let room = c.requires.room in
     record {
-      stands = boots g.K.Keeper.stands g.K.Keeper.room_of (g.K.Keeper.room_of c.args.keeper - entries_each) c.args.loaded.now c.args.keeper _ c.in_ok-core.core
+      stands = boots g.K.Keeper.stands g.K.Keeper.room_of (g.K.Keeper.room_of c.args.keeper - entries_each) c.args.loaded.now c.requires.loaded c.args.keeper _ c.in_ok-core.core
           c.counts_are_lengths.ensures.law c.as_slice-rest.ensures.items c.in_ok-core.ensures.paced c.in_ok-core.ensures.keeper c.requires.empty
           (c.in_ok-core.ensures.actions ∙ c.entry_count.ensures.count) (omega (arith, room));
     }

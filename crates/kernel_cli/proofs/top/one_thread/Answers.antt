@@ -1,32 +1,24 @@
--- A command that words spell asks for 1 to 8 harts, and one that isn't `run` is one that one thread does.
-use Rattle.std.proofs.Common.{◌≡◌, Option, Some, map, string_bytes, sym, ap, subst, rules, ◌∙◌}
+-- The end of a work that doesn't read.
+use Rattle.std.proofs.Common.{◌≡◌, ◌∙◌, Option, Some, map, string_bytes, sym, ap, subst}
 use Rattle.io_edge.specs.Gone.{source_tells, sink_tells}
-use Rattle.kernel_cli.specs.Commands.{command_of, served_by_one}
 use Rattle.kernel_cli.specs.TopCall.{IsAnswered}
-use Rattle.kernel_cli.specs.declared.command.Command.{Command}
-use Rattle.kernel_cli.proofs.CommandWords.{spelled_harts, spelled_tasks}
-use Rattle.kernel_cli.proofs.top.one_thread.Given as given
+use Rattle.kernel_cli.specs.Works.{work_in, HasCounts, served_by_one}
+use Rattle.kernel_cli.specs.declared.work.Work.{Work}
+use Rattle.kernel_cli.specs.declared.work.Work.TheVariants.{Generated}
+use Rattle.kernel_cli.proofs.Answering.{answered_generated}
 use Rattle.kernel_cli.proofs.top.one_thread.Goals as goal
 
-pub do_served-requires-clause-harts : goal.do_served-requires-clause-harts
-do_served-requires-clause-harts g c =
-    let words = map string_bytes c.args.words.now in
-    spelled_harts words c.in-Some.command ((c.commands_are_decided.ensures.decided words c.in-Some.command).0 (sym c.read_words.ensures.command ∙ c.in-Some.is))
-
-pub do_served-requires-clause-tasks : goal.do_served-requires-clause-tasks
-do_served-requires-clause-tasks g c =
-    let words = map string_bytes c.args.words.now in
-    spelled_tasks words c.in-Some.command ((c.commands_are_decided.ensures.decided words c.in-Some.command).0 (sym c.read_words.ensures.command ∙ c.in-Some.is))
-
--- said before the call, where no promise of it makes the search long
-served : (g : given.Over) (c : goal.After-do_served-arg-in-Some-1 g) → served_by_one (Some c.in-Some.command) ≡ Some c.in-Some.command
-served g c = search rules
-
-pub returns-in-Some : goal.returns-in-Some
-returns-in-Some g c =
-    let is : Some c.in-Some.command ≡ command_of (map string_bytes c.args.words.now) = sym c.in-Some.is ∙ c.read_words.ensures.command in
+pub returns-in-Some-Generated : goal.returns-in-Some-Generated
+returns-in-Some-Generated g c =
+    let work = c.in-Some-Generated.work in
+    let is : work_in (map string_bytes c.args.words.now) ≡ Some (Generated work) =
+    sym c.read_work.ensures.work ∙ c.in-Some-Generated.is ∙ ap (λ (w : Work). Some w) c.in-Some-Generated.field-0-is in
+    let counts : HasCounts (Generated work) = subst HasCounts c.in-Some-Generated.field-0-is c.in-Some-Generated.ensures.counts in
     record {
-      answered = subst (λ (o : Option Command). IsAnswered (source_tells g.S.Source.left g.S.Source.given g.S.Source.ended) g.S.Source.faults (sink_tells g.K.Sink.held g.K.Sink.taken) g.K.Sink.faults o
-          c.args.src.now c.do_served.new.src c.args.sink.now c.do_served.new.sink c.do_served.result)
-          (sym (served g c.before) ∙ ap (λ (o : Option Command). served_by_one o) is) c.do_served.ensures.answered;
+      answered = subst (λ (o : Option Work). IsAnswered (source_tells g.S.Source.left g.S.Source.given g.S.Source.ended) g.S.Source.faults (sink_tells g.K.Sink.held g.K.Sink.taken) g.K.Sink.faults
+          (served_by_one o) c.args.src.now c.args.src.now c.args.sink.now c.put_answer.new.sink c.put_answer.result) (sym is)
+          (answered_generated (source_tells g.S.Source.left g.S.Source.given g.S.Source.ended) g.S.Source.faults (sink_tells g.K.Sink.held g.K.Sink.taken) g.K.Sink.faults
+          work c.args.src.now c.args.sink.now c.put_answer.new.sink c.put_answer.result c.answer_generated.result
+          c.answer_generated.ensures.answer c.answer_generated.ensures.fine c.put_answer.ensures.written c.put_answer.ensures.memory
+          (c.works_are_sound.ensures.sound (Generated work) counts (source_tells g.S.Source.left g.S.Source.given g.S.Source.ended c.args.src.now)));
     }
