@@ -10,24 +10,29 @@ use Rattle.io_edge.specs.Gone.{SourceTells, SinkTells, Took}
 use Rattle.isa_model.specs.declared.task.Task.{Task}
 use Rattle.core_model.specs.declared.loaded.Loaded.{Loaded}
 use Rattle.core_model.specs.declared.world.World.{World}
-use Rattle.core_model.specs.Security.{IsSecureByOne}
+use Rattle.core_model.specs.Security.{IsSecureByOne, IsSecureByTwo}
 use Rattle.bundle_text.specs.Lines.{bundle_of}
 use Rattle.probing_laws.specs.Certified.{IsCertified}
+use Rattle.probing_laws.specs.CertifiedTwo.{IsCertifiedTwo}
 use Rattle.probing_laws.specs.declared.verdict.Verdict.{Verdict}
 use Rattle.probing_laws.specs.declared.verdict.Verdict.TheVariants.{Secure, Leak}
 use Rattle.probing_laws.specs.declared.verdict.CertFault.{CertFault}
 use Rattle.probing_laws.specs.declared.verdict.CertFault.TheVariants as faults
 use Rattle.probing_laws.specs.declared.verdict.CertFault.TheVariants.{NoWorlds, TooMuch, Uneven, ControlDiffers}
+use Rattle.probing_laws.specs.declared.verdict_two.VerdictTwo.{VerdictTwo}
+use Rattle.probing_laws.specs.declared.verdict_two.VerdictTwo.TheVariants as two
+use Rattle.probing_laws.specs.declared.verdict_two.TwoFault.{TwoFault}
+use Rattle.probing_laws.specs.declared.verdict_two.TwoFault.TheVariants as two_faults
 use Rattle.kernel_cli.specs.Answer.{Answer, words_refused, done, too_large}
 use Rattle.kernel_cli.specs.AnswerOf.{work_answer, answer_of, IsFound}
 use Rattle.kernel_cli.specs.Bundles.{LoadAs, loading_answer, bundle_answer, loaded_answer}
-use Rattle.kernel_cli.specs.Findings.{Finding, Nothing, Ordered, judgement_in}
+use Rattle.kernel_cli.specs.Findings.{Finding, Nothing, Ordered, judgement_in, judgement_by_two_in}
 use Rattle.kernel_cli.specs.Lints.{AssembleAs}
 use Rattle.kernel_cli.specs.Outcome.{status_of, IsAnswer, IsAnswerByThreads, IsAnswerOver, IsRefusedFor}
 use Rattle.kernel_cli.specs.Replays.{order_report}
 use Rattle.kernel_cli.specs.Runs.{IsRunOrder, run_answer}
-use Rattle.kernel_cli.specs.Security.{SecureTasksStaySecure}
-use Rattle.kernel_cli.specs.Verdicts.{verdict_answer}
+use Rattle.kernel_cli.specs.Security.{IsSecureFor, SecureTasksStaySecure}
+use Rattle.kernel_cli.specs.Verdicts.{verdict_answer, verdict_two_answer}
 use Rattle.kernel_cli.specs.Works.{harts_of, threads_of, reads, text_limit, limit_of}
 use Rattle.kernel_cli.specs.TopCall.{WereLeft, WereGiven, Answers, TookPart, IsCoreSoundFor, BeginsToAnswer, WritesOrFails, HasEnded, IsTooLarge, WasRead, IsReadOut, WasReadFor, TakesAtMost, IsFirstTaskSecure, IsInputSecure, WasInput, IsAnswered}
 use Rattle.kernel_cli.specs.declared.answer.Response.{Response}
@@ -39,7 +44,7 @@ use Rattle.kernel_cli.specs.declared.status.Status.TheVariants.{Fine, BadWords, 
 use Rattle.kernel_cli.specs.declared.work.Work.{Work}
 use Rattle.kernel_cli.specs.declared.work.Work.TheVariants.{Bundle, Code, Generated, Threads}
 use Rattle.kernel_cli.specs.declared.work.BundleWork.{BundleWork}
-use Rattle.kernel_cli.specs.declared.work.BundleWork.TheVariants.{Certify}
+use Rattle.kernel_cli.specs.declared.work.BundleWork.TheVariants.{Alone, Asm, Script, Replay, Explain, Certify, CertifyTwo}
 use Rattle.kernel_cli.specs.declared.work.CodeWork.TheVariants.{Lint, LintDrill}
 use Rattle.kernel_cli.specs.declared.work.GeneratedWork.{GeneratedWork}
 use Rattle.kernel_cli.specs.declared.work.ThreadWork.{ThreadWork}
@@ -126,32 +131,56 @@ fine_is_secure T worlds (Err (Uneven a b)) is e = absurd (cc e)
 fine_is_secure T worlds (Err (ControlDiffers v w step)) is e = absurd (cc e)
 fine_is_secure T worlds (Err faults.Memory) is e = absurd (cc e)
 
--- The task is secure of which a verdict is fine.
-is_certified : (bytes : List ℕ) (found : Finding) → IsFound (Some (Bundle Certify)) bytes found
-    → (answer_of (Some (Bundle Certify)) found bytes).status ≡ Fine → SecureTasksStaySecure → IsFirstTaskSecure bytes
-is_certified bytes found is fine securing = λ loaded l T at. (let answer : answer_of (Some (Bundle Certify)) found bytes ≡ verdict_answer (judgement_in found) =
+-- So it says by two probes.
+fine_is_secure_by_two : (T : Task) (worlds : List World) (judgement : Result VerdictTwo TwoFault) → IsCertifiedTwo T worlds judgement
+    → (verdict_two_answer judgement).status ≡ Fine → IsSecureByTwo T worlds
+fine_is_secure_by_two T worlds (Ok (two.Secure places)) is e = is.1
+fine_is_secure_by_two T worlds (Ok (two.One verdict)) is e = absurd (cc e)
+fine_is_secure_by_two T worlds (Ok (two.Leak steps latches a b values count_a count_b)) is e = absurd (cc e)
+fine_is_secure_by_two T worlds (Err (two_faults.Cert NoWorlds)) is e = absurd (cc e)
+fine_is_secure_by_two T worlds (Err (two_faults.Cert (TooMuch product))) is e = absurd (cc e)
+fine_is_secure_by_two T worlds (Err (two_faults.Cert (Uneven a b))) is e = absurd (cc e)
+fine_is_secure_by_two T worlds (Err (two_faults.Cert (ControlDiffers v w step))) is e = absurd (cc e)
+fine_is_secure_by_two T worlds (Err (two_faults.Cert faults.Memory)) is e = absurd (cc e)
+fine_is_secure_by_two T worlds (Err (two_faults.TooMany product)) is e = absurd (cc e)
+fine_is_secure_by_two T worlds (Err two_faults.Memory) is e = absurd (cc e)
+
+-- The task is as secure as the work says of which a verdict is fine.
+is_certified : (work : BundleWork) (bytes : List ℕ) (found : Finding) → IsFound (Some (Bundle work)) bytes found
+    → (answer_of (Some (Bundle work)) found bytes).status ≡ Fine → SecureTasksStaySecure → IsFirstTaskSecure work bytes
+is_certified Certify bytes found is fine securing = λ loaded l T at. (let answer : answer_of (Some (Bundle Certify)) found bytes ≡ verdict_answer (judgement_in found) =
     answer_within (Bundle Certify) found bytes refl l.within ∙ bundle_loads (loaded_answer Certify found) 8 bytes loaded l in
-    securing 8 (omega arith, omega arith) bytes loaded l T
+    securing.by_one 8 (omega arith, omega arith) bytes loaded l T
     (fine_is_secure T loaded.worlds (judgement_in found) ((is loaded l).certified T at) (sym (ap (λ (a : Answer). a.status) answer) ∙ fine)))
+is_certified CertifyTwo bytes found is fine securing = λ loaded l T at. (let answer : answer_of (Some (Bundle CertifyTwo)) found bytes ≡ verdict_two_answer (judgement_by_two_in found) =
+    answer_within (Bundle CertifyTwo) found bytes refl l.within ∙ bundle_loads (loaded_answer CertifyTwo found) 8 bytes loaded l in
+    securing.by_two 8 (omega arith, omega arith) bytes loaded l T
+    (fine_is_secure_by_two T loaded.worlds (judgement_by_two_in found) ((is loaded l).certified T at) (sym (ap (λ (a : Answer). a.status) answer) ∙ fine)))
+is_certified Alone bytes found is fine securing = λ loaded l T at. tt
+is_certified Asm bytes found is fine securing = λ loaded l T at. tt
+is_certified (Script probes) bytes found is fine securing = λ loaded l T at. tt
+is_certified (Replay harts probes) bytes found is fine securing = λ loaded l T at. tt
+is_certified Explain bytes found is fine securing = λ loaded l T at. tt
 
 -- So it is in the bytes that were told, and in those that were given.
-told_secure : (left : Option (List ℕ)) (bytes : List ℕ) → IfSome left (λ told. bytes ≡ told) → IsFirstTaskSecure bytes → IfSome left IsFirstTaskSecure
-told_secure None bytes were secure = tt
-told_secure (Some told) bytes were secure = subst IsFirstTaskSecure were secure
+told_secure : (work : BundleWork) (left : Option (List ℕ)) (bytes : List ℕ) → IfSome left (λ told. bytes ≡ told) → IsFirstTaskSecure work bytes
+    → IfSome left (IsFirstTaskSecure work)
+told_secure work None bytes were secure = tt
+told_secure work (Some told) bytes were secure = subst (IsFirstTaskSecure work) were secure
 
 same_rest : (front a b : List ℕ) → front ++ a ≡ front ++ b → a ≡ b
 same_rest front a b e = sym (drop-append_seam front a) ∙ ap (λ l. drop (length front) l) e ∙ drop-append_seam front b
 
 for_work : (work : Work) (bytes : List ℕ) (found : Finding) (src src' : SourceTells) → IsFound (Some work) bytes found → SecureTasksStaySecure
     → WereLeft bytes src → src'.given ≡ src.given ++ bytes
-    → Some work ≡ Some (Bundle Certify) → (answer_of (Some work) found bytes).status ≡ Fine → IsInputSecure src src'
-for_work work bytes found src src' is securing were gave e fine =
-    let same : work ≡ Bundle Certify = cc e in
-    let secure = is_certified bytes found (subst (λ (w : Work). IsFound (Some w) bytes found) same is)
+    → (judging : BundleWork) → Some work ≡ Some (Bundle judging) → (answer_of (Some work) found bytes).status ≡ Fine → IsInputSecure judging src src'
+for_work work bytes found src src' is securing were gave judging e fine =
+    let same : work ≡ Bundle judging = cc e in
+    let secure = is_certified judging bytes found (subst (λ (w : Work). IsFound (Some w) bytes found) same is)
     (subst (λ (w : Work). (answer_of (Some w) found bytes).status ≡ Fine) same fine) securing in
     record {
-      told = told_secure src.left bytes were secure;
-      gave = λ other also. subst IsFirstTaskSecure (same_rest src.given bytes other (sym gave ∙ also)) secure;
+      told = told_secure judging src.left bytes were secure;
+      gave = λ other also. subst (IsFirstTaskSecure judging) (same_rest src.given bytes other (sym gave ∙ also)) secure;
     }
 
 -- ---- what the source gave
@@ -262,7 +291,7 @@ module _ {S K : Type 0} (source : S → SourceTells) (read_faults : S → ℕ) (
       → (reads work ≡ false → src' ≡ src)
       → Ending work src src' sink sink' status
       → IsCoreSoundFor (Some work) (source src)
-      → (Some work ≡ Some (Bundle Certify) → status ≡ Fine → IsInputSecure (source src) (source src'))
+      → ((judging : BundleWork) → Some work ≡ Some (Bundle judging) → status ≡ Fine → IsInputSecure judging (source src) (source src'))
       → TakesAtMost (limit_of (Some work)) (source src) (source src')
       → IsAnsweredBy work src src' sink sink' status
   ended work src src' sink sink' status unread ending sound certified taken =
@@ -290,16 +319,16 @@ module _ {S K : Type 0} (source : S → SourceTells) (read_faults : S → ℕ) (
       → (TookPart (kept sink) (kept sink') text → BeginsToAnswer (Some work) (source src) (source src') (kept sink) (kept sink'))
       → WasReadFor (Some work) (source src) (source src')
       → IsCoreSoundFor (Some work) (source src)
-      → (Some work ≡ Some (Bundle Certify) → asked ≡ Fine → IsInputSecure (source src) (source src'))
+      → ((judging : BundleWork) → Some work ≡ Some (Bundle judging) → asked ≡ Fine → IsInputSecure judging (source src) (source src'))
       → TakesAtMost (limit_of (Some work)) (source src) (source src')
       → IsWritten asked text sink sink' status
       → IsAnsweredBy work src src' sink sink' status
   ended_by_text work src src' sink sink' asked status text unread whole part read sound certified taken (inl w) =
       ended work src src' sink sink' status unread (subst (λ (s : Status). Ending work src src' sink sink' s) (sym w.0) (whole w.1)) sound
-      (λ e fine. certified e (sym w.0 ∙ fine)) taken
+      (λ judging e fine. certified judging e (sym w.0 ∙ fine)) taken
   ended_by_text work src src' sink sink' asked status text unread whole part read sound certified taken (inr w) =
       ended work src src' sink sink' status unread (subst (λ (s : Status). Ending work src src' sink sink' s) (sym w.0) (w.1, part w.2, read)) sound
-      (λ e fine. absurd (cc (sym w.0 ∙ fine))) taken
+      (λ judging e fine. absurd (cc (sym w.0 ∙ fine))) taken
 
   -- Memory ran out before anything was written.
   without_memory : (work : Work) (src src' : S) (sink sink' : K) (status : Status)
@@ -310,7 +339,7 @@ module _ {S K : Type 0} (source : S → SourceTells) (read_faults : S → ℕ) (
       → IsAnsweredBy work src src' sink sink' status
   without_memory work src src' sink sink' status unread sound taken none =
       ended work src src' sink sink' status unread (subst (λ (s : Status). Ending work src src' sink sink' s) (sym none.1) none.0) sound
-      (λ e fine. absurd (cc (sym none.1 ∙ fine))) taken
+      (λ judging e fine. absurd (cc (sym none.1 ∙ fine))) taken
 
   pub answered_without_memory : (work : Work) (src src' : S) (sink : K)
       → TakesAtMost (limit_of (Some work)) (source src) (source src')
@@ -328,7 +357,7 @@ module _ {S K : Type 0} (source : S → SourceTells) (read_faults : S → ℕ) (
       → IsCoreSoundFor (Some work) (source src)
       → IsAnsweredBy work src src' sink sink ReadFault
   answered_read_fault work src src' sink rose taken reading sound =
-      ended work src src' sink sink ReadFault (λ e. absurd (cc (sym reading ∙ e))) (rose, reading, refl) sound (λ _ fine. absurd (cc fine)) taken
+      ended work src src' sink sink ReadFault (λ e. absurd (cc (sym reading ∙ e))) (rose, reading, refl) sound (λ _ _ fine. absurd (cc fine)) taken
 
   -- The refusal of too many bytes was written, or a part of it.
   pub answered_too_large : (work : Work) (src src' : S) (sink sink' : K) (status : Status)
@@ -342,7 +371,7 @@ module _ {S K : Type 0} (source : S → SourceTells) (read_faults : S → ℕ) (
       ended_by_text work src src' sink sink' BadInput status too_large.text (λ e. absurd (cc (sym reading ∙ e)))
       (λ a. (inr large, all_written work (source src) (source src') (kept sink) (kept sink') reading large a))
       (part_written work (source src) (source src') (kept sink) (kept sink') reading large)
-      (λ _. inr large) sound (λ _ fine. absurd (cc fine)) taken written
+      (λ _. inr large) sound (λ _ _ fine. absurd (cc fine)) taken written
 
   -- what an answer promises, by its status
   of_status : (work : Work) (src src' : S) (sink sink' : K) (asked : Status) → IsOfAnswer asked → HasEnded (source src')
@@ -372,7 +401,7 @@ module _ {S K : Type 0} (source : S → SourceTells) (read_faults : S → ℕ) (
       (bytes, found, was.were, given, over.1, sym is.status, subst (λ (text : List ℕ). Took (kept sink) (kept sink') text) is.text a))
       (λ a. (bytes, found, was.were, given, over.1, subst (λ (text : List ℕ). TookPart (kept sink) (kept sink') text) is.text a))
       (λ _. inl was.end) backed.cores
-      (λ e fine. for_work work bytes found (source src) (source src') over.1 backed.securing was.were was.gave.given e (sym is.status ∙ fine)) was.taken written
+      (λ judging e fine. for_work work bytes found (source src) (source src') over.1 backed.securing was.were was.gave.given judging e (sym is.status ∙ fine)) was.taken written
 
   -- The end of a work that reads, where its input was had: memory ran out, or its answer was written, or a part of it.
   pub answered_over : (work : Work) (src src' : S) (sink same sink' : K) (status : Status) (bytes : List ℕ) (answer : Result Response AllocError)
@@ -400,7 +429,7 @@ module _ {S K : Type 0} (source : S → SourceTells) (read_faults : S → ℕ) (
   answered_generated work src sink sink' status (Ok response) over fine written memory sound =
       let some = some_left (source src).left in
       let is = over some.0 in
-      let unread : (Some (Generated work) ≡ Some (Bundle Certify)) → ⊥ = λ e. absurd (cc e) in
+      let unread : (judging : BundleWork) → Some (Generated work) ≡ Some (Bundle judging) → ⊥ = λ judging e. absurd (cc e) in
       let asked : status_of response.outcome ≡ Fine = ap status_of fine in
       ended_by_text (Generated work) src src sink sink' Fine status response.text.items (λ _. refl)
       (λ a. (
@@ -423,7 +452,7 @@ module _ {S K : Type 0} (source : S → SourceTells) (read_faults : S → ℕ) (
         is.1,
         subst (λ (text : List ℕ). TookPart (kept sink) (kept sink') text) is.2.text a,
       ))
-      (λ reading. absurd (cc reading)) sound (λ e _. absurd (unread e)) (nothing_taken 0 (source src))
+      (λ reading. absurd (cc reading)) sound (λ judging e _. absurd (unread judging e)) (nothing_taken 0 (source src))
       (subst (λ (s : Status). IsWritten s response.text.items sink sink' status) asked written)
   answered_generated work src sink sink' status (Err error) over fine written memory sound =
       without_memory (Generated work) src src sink sink' status (λ _. refl) sound (nothing_taken 0 (source src)) memory

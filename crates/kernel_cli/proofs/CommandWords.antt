@@ -5,7 +5,7 @@ use Rattle.std.proofs.lemmas.Fmt.{decimal_digit}
 use Rattle.std.specs.Str.{bytes_eq}
 use Rattle.std.proofs.lemmas.Slice.Eq.{bytes_eq-Decides}
 use Rattle.kernel_cli.specs.declared.command.Command.{Command}
-use Rattle.kernel_cli.specs.declared.command.Command.TheVariants.{Alone, Asm, Run, Script, Replay, Explain, Certify, Gen, Drill, Lint, LintDrill}
+use Rattle.kernel_cli.specs.declared.command.Command.TheVariants.{Alone, Asm, Run, Script, Replay, Explain, Certify, CertifyTwo, Gen, Drill, Lint, LintDrill}
 use Rattle.core_model.proofs.Lists.{some-is}
 use Rattle.timer_plan.specs.Tokens.{IsDecimal}
 use Rattle.bundle_text.specs.Numbers.{decimal_of}
@@ -172,11 +172,23 @@ numbers_decided word detail more seed tasks seed_is tasks_are =
     ap (λ (o : Option ℕ). numbered_by word o (number_in 2 1 32 more)) (spelled_number 20 0 18446744073709551615 seed detail seed_is)
     ∙ ap (λ (o : Option ℕ). numbered_by word (Some seed) o) (spelled_number 2 1 32 tasks more tasks_are)
 
+-- the words of a verdict by two probes
+certify_spelled : (word detail : List ℕ) (command : Command) (certify two : Bool) → bytes_eq word (codes "certify") ≡ certify
+    → bytes_eq detail (codes "2") ≡ two → cond (certify && two) (Some CertifyTwo) None ≡ Some command → SpellsCommand (word ∷ detail ∷ []) command
+certify_spelled word detail command true true is_certify is_two h =
+    let words : word ∷ detail ∷ [] ≡ codes "certify" ∷ codes "2" ∷ [] =
+    ap (λ w. w ∷ detail ∷ []) ((bytes_eq-Decides word (codes "certify")).0 is_certify)
+    ∙ ap (λ d. codes "certify" ∷ d ∷ []) ((bytes_eq-Decides detail (codes "2")).0 is_two) in
+    subst (λ (c : Command). SpellsCommand (word ∷ detail ∷ []) c) (some-is h) words
+certify_spelled word detail command true false is_certify is_two h = absurd (cc h)
+certify_spelled word detail command false two is_certify is_two h = absurd (cc h)
+
 -- two words, by theirs
 two_words : (word detail : List ℕ) (command : Command) (run replay script probes : Bool)
     → bytes_eq word (codes "run") ≡ run → bytes_eq word (codes "replay") ≡ replay
     → bytes_eq word (codes "script") ≡ script → bytes_eq detail (codes "probes") ≡ probes
-    → cond run (run_by (hart_count detail)) (cond replay (replay_by (hart_count detail) false) (cond (script && probes) (Some (Script true)) None))
+    → cond run (run_by (hart_count detail)) (cond replay (replay_by (hart_count detail) false) (cond (script && probes) (Some (Script true))
+    (cond (bytes_eq word (codes "certify") && bytes_eq detail (codes "2")) (Some CertifyTwo) None)))
     ≡ Some command
     → SpellsCommand (word ∷ detail ∷ []) command
 two_words word detail command true replay script probes is_run is_replay is_script is_probes h =
@@ -190,8 +202,10 @@ two_words word detail command false false true true is_run is_replay is_script i
     ap (λ w. w ∷ detail ∷ []) ((bytes_eq-Decides word (codes "script")).0 is_script)
     ∙ ap (λ d. codes "script" ∷ d ∷ []) ((bytes_eq-Decides detail (codes "probes")).0 is_probes) in
     subst (λ (c : Command). SpellsCommand (word ∷ detail ∷ []) c) (some-is h) words
-two_words word detail command false false true false is_run is_replay is_script is_probes h = absurd (cc h)
-two_words word detail command false false false probes is_run is_replay is_script is_probes h = absurd (cc h)
+two_words word detail command false false true false is_run is_replay is_script is_probes h =
+    certify_spelled word detail command (bytes_eq word (codes "certify")) (bytes_eq detail (codes "2")) refl refl h
+two_words word detail command false false false probes is_run is_replay is_script is_probes h =
+    certify_spelled word detail command (bytes_eq word (codes "certify")) (bytes_eq detail (codes "2")) refl refl h
 
 -- three words, by theirs
 three_words : (word detail more : List ℕ) (command : Command) (replay probes : Bool)
@@ -229,6 +243,7 @@ spelled_decided words (Replay harts false) h = ap command_of h.1 ∙ ap (λ coun
 spelled_decided words (Replay harts true) h = ap command_of h.1 ∙ ap (λ count. replay_by count true) (spelled_count harts h.0)
 spelled_decided words Explain h = ap command_of h
 spelled_decided words Certify h = ap command_of h
+spelled_decided words CertifyTwo h = ap command_of h
 spelled_decided words (Drill seed tasks) h =
     ap command_of h.words_are ∙ numbers_decided (codes "drill") h.seed_word h.tasks_word seed tasks h.seed_is h.tasks_are
 spelled_decided words Lint h = ap command_of h
@@ -247,6 +262,7 @@ spelled_counts words (Replay harts false) h = h.0
 spelled_counts words (Replay harts true) h = h.0
 spelled_counts words Explain h = (omega arith, omega arith)
 spelled_counts words Certify h = (omega arith, omega arith)
+spelled_counts words CertifyTwo h = (omega arith, omega arith)
 spelled_counts words (Gen seed tasks) h = (h.tasks_are.least, h.tasks_are.greatest)
 spelled_counts words (Drill seed tasks) h = (h.tasks_are.least, h.tasks_are.greatest)
 spelled_counts words Lint h = tt

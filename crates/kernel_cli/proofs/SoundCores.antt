@@ -4,7 +4,7 @@ use Rattle.core_model.specs.declared.loaded.Loaded.{Loaded}
 use Rattle.core_model.specs.Loaded.{IsLoaded}
 use Rattle.core_invariant.specs.KernelStates.{emitted_parts, linked_parts, IsAlikeKernel}
 use Rattle.order_laws.specs.Laws.{AlikeBundlesRunAlike}
-use Rattle.probing_laws.specs.Laws.{SecurityTransfers, TwoWorldsAgree}
+use Rattle.probing_laws.specs.Laws.{SecurityTransfers, SecurityByTwoTransfers, TwoWorldsAgree}
 use Rattle.core_invariant.specs.Laws.{CoreStaysSound, OutputsStayBeginnings, EachTaskHasOneHome, NoHartWedges, EmittedIsKernel}
 use Rattle.bundle_text.proofs.DraftRanges.{bundle_range}
 use Rattle.masked_gen.specs.Generator.{generated}
@@ -79,11 +79,18 @@ works_sound loaded_sound generated_cores linted (Generated (Gen seed tasks)) cou
 works_sound loaded_sound generated_cores linted (Generated (Drill seed tasks)) counts src = λ loaded loads events. generated_cores seed tasks counts.1 loaded loads events
 works_sound loaded_sound generated_cores linted (Threads work) counts src = λ bytes loaded were loads events. loaded_sound (threads_of work) counts bytes loaded loads events
 
-pub stay_secure : LoadingIsSound → SecurityTransfers → EmittedIsKernel → IsAlikeKernel emitted_parts → SecureTasksStaySecure
-stay_secure law transfers kernel alike harts count bytes loaded l T secure =
-    let valid = is_loaded law harts count bytes loaded l in
-    record {
-      alone = secure;
-      cores = λ other is_other t at events. transfers emitted_parts kernel alike other is_other t T loaded.worlds
-          (record { is_task = at; words = valid.limits.worlds; as_long = valid.limits.worlds_as_long }) secure events;
-    }
+pub stay_secure : LoadingIsSound → SecurityTransfers → SecurityByTwoTransfers → EmittedIsKernel → IsAlikeKernel emitted_parts → SecureTasksStaySecure
+stay_secure law transfers by_two kernel alike = record {
+  by_one = λ harts count bytes loaded l T secure. (let valid = is_loaded law harts count bytes loaded l in
+      record {
+        alone = secure;
+        cores = λ other is_other t at events. transfers emitted_parts kernel alike other is_other t T loaded.worlds
+            (record { is_task = at; words = valid.limits.worlds; as_long = valid.limits.worlds_as_long }) secure events;
+      });
+  by_two = λ harts count bytes loaded l T secure. (let valid = is_loaded law harts count bytes loaded l in
+      record {
+        alone = secure;
+        cores = λ other is_other t at events. by_two emitted_parts kernel alike other is_other t T loaded.worlds
+            (record { is_task = at; words = valid.limits.worlds; as_long = valid.limits.worlds_as_long }) secure events;
+      });
+}

@@ -1,16 +1,16 @@
 -- The answer to a work over the bytes of its input, and over what it finds beside them: a status and a text. `run` and `drill` find an order,
--- `certify` a verdict, `lint` what holds of a routine, and `lint SEED N` an order too; the other commands find nothing. The answers to
+-- `certify` and `certify 2` a verdict, `lint` what holds of a routine, and `lint SEED N` an order too; the other commands find nothing. The answers to
 -- `gen` and `drill` don't hang on the bytes. It is a function, so it says of each of its statuses exactly where it comes:
 --
 -- - BadWords, with `bad words`: exactly where there is no command.
 -- - BadInput: exactly where the input is refused. In this order, `too large` where it has more bytes than the limit; a line that
 --   isn't of the form of a bundle; a line of code that doesn't assemble; a number outside its limits; a plan for a hart that
 --   isn't there; a run that may be too long; for `replay` an entry of the order that isn't legal; for `certify` no worlds, too many of them,
---   or secrets with different numbers of them. Of `lint`: `too large`; a line with a byte that isn't of text; a line that doesn't assemble.
+--   or secrets with different numbers of them, and for `certify 2` after these too many pairs of places. Of `lint`: `too large`; a line with a byte that isn't of text; a line that doesn't assemble.
 -- - LogFull, with `log full`: exactly where a command that keeps the log has no room for the next event. Whichever of this and of an entry
 --   that isn't legal the run by an order comes to first is its answer.
 -- - Verdict, with the line that says so: of `certify`, exactly where two worlds take different courses, and where a latch write tells something
---   of the secret; and of `lint`, exactly where the words break a rule.
+--   of the secret; of `certify 2` there too, and where two of them together do; and of `lint`, exactly where the words break a rule.
 -- - Fine, with the text of the command: everywhere else.
 use Rattle.std.specs.Prelude.{◌≡◌, ℕ, Bool, ◌&&◌, List, length, Option, Some, None, nat_lt, if◌then◌else◌}
 use Rattle.core_model.specs.declared.loaded.Loaded.{Loaded}

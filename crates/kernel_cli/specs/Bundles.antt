@@ -10,14 +10,14 @@ use Rattle.report_text.specs.AloneReport.{alone_report_of}
 use Rattle.report_text.specs.AsmListing.{asm_text_of}
 use Rattle.kernel_cli.specs.AloneTasks.{ends_of}
 use Rattle.kernel_cli.specs.Answer.{Answer, done, refused, answer_of_text}
-use Rattle.kernel_cli.specs.Findings.{Finding, Nothing, judgement_in}
+use Rattle.kernel_cli.specs.Findings.{Finding, Nothing, judgement_in, judgement_by_two_in}
 use Rattle.kernel_cli.specs.Refusals.{bundle_refusal, load_refusal}
 use Rattle.kernel_cli.specs.Replays.{replay_answer}
 use Rattle.kernel_cli.specs.Scripts.{script_report, probes_text, explanations_text}
-use Rattle.kernel_cli.specs.Verdicts.{IsJudged, verdict_answer}
+use Rattle.kernel_cli.specs.Verdicts.{IsJudged, IsJudgedByTwo, verdict_answer, verdict_two_answer}
 use Rattle.kernel_cli.specs.Works.{text_limit}
 use Rattle.kernel_cli.specs.declared.work.BundleWork.{BundleWork}
-use Rattle.kernel_cli.specs.declared.work.BundleWork.TheVariants.{Alone, Asm, Script, Replay, Explain, Certify}
+use Rattle.kernel_cli.specs.declared.work.BundleWork.TheVariants.{Alone, Asm, Script, Replay, Explain, Certify, CertifyTwo}
 
 -- The bytes are read as a bundle, which loads for so many harts as this.
 pub record LoadAs (harts : ℕ) (bytes : List ℕ) (loaded : Loaded) : Type 0 where
@@ -45,8 +45,10 @@ loaded_answer (Script true) found loaded = answer_of_text (probes_text loaded)
 loaded_answer (Replay harts probes) found loaded = replay_answer probes loaded
 loaded_answer Explain found loaded = answer_of_text (explanations_text loaded)
 loaded_answer Certify found loaded = verdict_answer (judgement_in found)
+loaded_answer CertifyTwo found loaded = verdict_two_answer (judgement_by_two_in found)
 
 -- what it finds of the bundle
 abbrev pub IsFoundIn : BundleWork → Loaded → Finding → Type 0
 IsFoundIn Certify loaded found = IsJudged loaded (judgement_in found)
+IsFoundIn CertifyTwo loaded found = IsJudgedByTwo loaded (judgement_by_two_in found)
 IsFoundIn work loaded found = found ≡ Nothing

@@ -4,7 +4,7 @@ use Rattle.std.specs.Str.{bytes_eq}
 use Rattle.timer_plan.specs.Tokens.{IsDecimal}
 use Rattle.bundle_text.specs.Numbers.{decimal_of}
 use Rattle.kernel_cli.specs.declared.command.Command.{Command}
-use Rattle.kernel_cli.specs.declared.command.Command.TheVariants.{Alone, Asm, Run, Script, Replay, Explain, Certify, Gen, Drill, Lint, LintDrill}
+use Rattle.kernel_cli.specs.declared.command.Command.TheVariants.{Alone, Asm, Run, Script, Replay, Explain, Certify, CertifyTwo, Gen, Drill, Lint, LintDrill}
 
 -- how many harts a command may ask for
 abbrev pub IsHartCount : ℕ → Type 0
@@ -45,6 +45,7 @@ SpellsCommand words (Replay harts false) = IsHartCount harts × (words ≡ codes
 SpellsCommand words (Replay harts true) = IsHartCount harts × (words ≡ codes "replay" ∷ decimal harts ∷ codes "probes" ∷ [])
 SpellsCommand words Explain = words ≡ codes "explain" ∷ []
 SpellsCommand words Certify = words ≡ codes "certify" ∷ []
+SpellsCommand words CertifyTwo = words ≡ codes "certify" ∷ codes "2" ∷ []
 SpellsCommand words (Gen seed tasks) = SpellsNumbers (codes "gen") words seed tasks
 SpellsCommand words (Drill seed tasks) = SpellsNumbers (codes "drill") words seed tasks
 SpellsCommand words Lint = words ≡ codes "lint" ∷ []
@@ -84,6 +85,7 @@ command_detailed word detail =
     if bytes_eq word (codes "run") then run_by (hart_count detail)
     else if bytes_eq word (codes "replay") then replay_by (hart_count detail) false
     else if bytes_eq word (codes "script") && bytes_eq detail (codes "probes") then Some (Script true)
+    else if bytes_eq word (codes "certify") && bytes_eq detail (codes "2") then Some CertifyTwo
     else None
 
 -- the number, if it is one and in the range

@@ -15,7 +15,7 @@ use Rattle.kernel_cli.specs.Bundles.{LoadAs}
 use Rattle.kernel_cli.specs.Findings.{Finding}
 use Rattle.kernel_cli.specs.Generated.{IsGenerated}
 use Rattle.kernel_cli.specs.Lints.{AssembleAs}
-use Rattle.kernel_cli.specs.Security.{IsSecureEverywhere}
+use Rattle.kernel_cli.specs.Security.{IsSecureFor}
 use Rattle.kernel_cli.specs.Soundness.{IsRunSound}
 use Rattle.kernel_cli.specs.Statuses.{IsRefusal}
 use Rattle.kernel_cli.specs.Works.{harts_of, threads_of, reads_source, limit_of, HasCounts}
@@ -23,7 +23,7 @@ use Rattle.kernel_cli.specs.declared.status.Status.{Status}
 use Rattle.kernel_cli.specs.declared.status.Status.TheVariants.{Fine, Verdict, BadWords, BadInput, ReadFault, WriteFault, Memory, LogFull}
 use Rattle.kernel_cli.specs.declared.work.Work.{Work}
 use Rattle.kernel_cli.specs.declared.work.Work.TheVariants.{Bundle, Code, Generated, Threads}
-use Rattle.kernel_cli.specs.declared.work.BundleWork.TheVariants.{Certify}
+use Rattle.kernel_cli.specs.declared.work.BundleWork.{BundleWork}
 use Rattle.kernel_cli.specs.declared.work.CodeWork.TheVariants.{Lint, LintDrill}
 use Rattle.kernel_cli.specs.declared.work.GeneratedWork.TheVariants.{Gen, Drill}
 
@@ -37,7 +37,7 @@ WereGiven work bytes src src' = reads_source work ≡ true → src'.given ≡ sr
 
 -- The answer to the work, over the bytes that were left and that it was given, has this status, and the sink took its text. So it is over the
 -- bytes that the source gave in this call, whether or not it tells what is left. It is the answer over what the work finds: for `run` and
--- `drill` an order that its harts may make, for `certify` the verdict, for `lint` what holds of the routine, and for `lint SEED N` an order too.
+-- `drill` an order that its harts may make, for `certify` and `certify 2` the verdict, for `lint` what holds of the routine, and for `lint SEED N` an order too.
 abbrev pub Answers : Option Work → Status → SourceTells → SourceTells → SinkTells → SinkTells → Type 0
 Answers work status src src' sink sink' =
     (bytes : List ℕ) × (found : Finding) × WereLeft bytes src × WereGiven work bytes src src' × IsFound work bytes found
@@ -116,15 +116,15 @@ IsCoreSoundFor (Some (Threads work)) src = IsLoadedCoreSound (threads_of work) s
 abbrev pub AreWorksSound : Type 0
 AreWorksSound = (work : Work) → HasCounts work → (src : SourceTells) → IsCoreSoundFor (Some work) src
 
--- Where these bytes load, the first task is secure by one probe in the bundle's worlds, alone and in every core.
-abbrev pub IsFirstTaskSecure : List ℕ → Type 0
-IsFirstTaskSecure bytes = (loaded : Loaded) → LoadAs (harts_of Certify) bytes loaded
-    → (T : Task) → slice_get loaded.tasks 0 ≡ Some T → IsSecureEverywhere T loaded.worlds
+-- Where these bytes load, the first task is as secure in the bundle's worlds as the work says: alone and in every core.
+abbrev pub IsFirstTaskSecure : BundleWork → List ℕ → Type 0
+IsFirstTaskSecure work bytes = (loaded : Loaded) → LoadAs (harts_of work) bytes loaded
+    → (T : Task) → slice_get loaded.tasks 0 ≡ Some T → IsSecureFor work T loaded.worlds
 
 -- So it is in the bytes that were left, where the source tells them, and in those that the source gave in this call.
-pub record IsInputSecure (src src' : SourceTells) : Type 0 where
-  pub told : IfSome src.left IsFirstTaskSecure
-  pub gave : (bytes : List ℕ) → src'.given ≡ src.given ++ bytes → IsFirstTaskSecure bytes
+pub record IsInputSecure (work : BundleWork) (src src' : SourceTells) : Type 0 where
+  pub told : IfSome src.left (IsFirstTaskSecure work)
+  pub gave : (bytes : List ℕ) → src'.given ≡ src.given ++ bytes → IsFirstTaskSecure work bytes
 
 -- These bytes were left, no more of them than the limit, and the source gave them all and was read to its end.
 pub record WasInput (limit : ℕ) (src src' : SourceTells) (bytes : List ℕ) : Type 0 where
@@ -160,7 +160,8 @@ pub record IsAnswered {S K : Type 0} (source : S → SourceTells) (read_faults :
   -- A core that the work runs is sound all the way. This is a law about the definitions, whatever the call does; by the answer above it
   -- is said of the core whose report and log are written.
   pub cores_sound : IsCoreSoundFor work (source src)
-  -- where `certify` ends fine, its task tells nothing of the secret by one probe: alone, and in the log of every core that runs it
-  pub certified : work ≡ Some (Bundle Certify) → status ≡ Fine → IsInputSecure (source src) (source src')
+  -- where `certify` ends fine, its task tells nothing of the secret by one probe, and where `certify 2` does, by two: alone, and in the log of
+  -- every core that runs it
+  pub certified : (judging : BundleWork) → work ≡ Some (Bundle judging) → status ≡ Fine → IsInputSecure judging (source src) (source src')
   -- whatever the status, at most one byte past the limit is taken
   pub taken : TakesAtMost (limit_of work) (source src) (source src')

@@ -6,7 +6,7 @@ use Rattle.kernel_cli.specs.declared.command.Command.TheVariants as commands
 use Rattle.kernel_cli.specs.declared.work.Work.{Work}
 use Rattle.kernel_cli.specs.declared.work.Work.TheVariants.{Bundle, Code, Generated, Threads}
 use Rattle.kernel_cli.specs.declared.work.BundleWork.{BundleWork}
-use Rattle.kernel_cli.specs.declared.work.BundleWork.TheVariants.{Alone, Asm, Script, Replay, Explain, Certify}
+use Rattle.kernel_cli.specs.declared.work.BundleWork.TheVariants.{Alone, Asm, Script, Replay, Explain, Certify, CertifyTwo}
 use Rattle.kernel_cli.specs.declared.work.CodeWork.TheVariants.{Lint, LintDrill}
 use Rattle.kernel_cli.specs.declared.work.GeneratedWork.TheVariants.{Gen, Drill}
 use Rattle.kernel_cli.specs.declared.work.ThreadWork.{ThreadWork}
@@ -21,6 +21,7 @@ work_of (commands.Script probes) = Bundle (Script probes)
 work_of (commands.Replay harts probes) = Bundle (Replay harts probes)
 work_of commands.Explain = Bundle Explain
 work_of commands.Certify = Bundle Certify
+work_of commands.CertifyTwo = Bundle CertifyTwo
 work_of (commands.Gen seed tasks) = Generated (Gen seed tasks)
 work_of (commands.Drill seed tasks) = Generated (Drill seed tasks)
 work_of commands.Lint = Code Lint

@@ -14,7 +14,7 @@ use crate::refusals::{bundle_refusal, load_refusal};
 use crate::replays::answer_replay;
 use crate::scripts::{explain, script, script_probes};
 use crate::tasks::ends;
-use crate::verdicts::answer_certify;
+use crate::verdicts::{answer_certify, answer_certify_two};
 use crate::work::{BundleWork, harts_of};
 use bundle_text::{Bundle, BundleKind, read_bundle};
 use report_text::{alone_report, asm_text};
@@ -82,6 +82,7 @@ fn answer_loaded(alloc: Global, work: BundleWork, loaded: &Loaded) -> Result<Res
         BundleWork::Replay { probes, .. } => answer_replay(alloc, probes, loaded),
         BundleWork::Explain => logged(alloc, explain(alloc, loaded)?),
         BundleWork::Certify => answer_certify(alloc, loaded),
+        BundleWork::CertifyTwo => answer_certify_two(alloc, loaded),
     }
 }
 

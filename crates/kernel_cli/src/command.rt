@@ -33,6 +33,8 @@ pub enum Command {
     Explain,
     /// `certify`: judges the first task of the bundle in the bundle's worlds.
     Certify,
+    /// `certify 2`: judges it by two probes at once.
+    CertifyTwo,
     /// `gen SEED N`: writes the bundle of masked tasks that a number gives. It doesn't read the source.
     Gen {
         /// The number: 1 to 20 decimal digits, below 2^64.
@@ -126,6 +128,8 @@ fn command_detailed(word: &str, detail: &str) -> Option<Command>
         replay(detail, false)
     } else if word == "script" && detail == "probes" {
         Some(Command::Script { probes: true })
+    } else if word == "certify" && detail == "2" {
+        Some(Command::CertifyTwo)
     } else {
         None
     }

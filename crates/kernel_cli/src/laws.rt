@@ -16,7 +16,7 @@ use core_invariant::{
 };
 use noninterference::emitted_is_alike;
 use order_laws::alike_bundles_run_alike;
-use probing_laws::{security_transfers, two_worlds_agree};
+use probing_laws::{security_by_two_transfers, security_transfers, two_worlds_agree};
 use report_laws::run_reports_tell_orders;
 use routine_laws::accepted_routines_do;
 use rv_loader::loading_is_sound;
@@ -55,13 +55,14 @@ pub fn cores_are_sound()
     emitted_is_alike();
 }
 
-/// A task that is secure by one probe in its run alone, in the worlds of whatever bundle bytes are read as and that loads for some number of
-/// harts from 1 to 8, is so in every core that runs it: beside any other tasks and after every list of events.
+/// A task that is secure by one probe in its run alone, or by two, in the worlds of whatever bundle bytes are read as and that loads for some
+/// number of harts from 1 to 8, is so in every core that runs it: beside any other tasks and after every list of events.
 pub fn secure_tasks_stay_secure()
     ensures secure { SecureTasksStaySecure }
 {
     loading_is_sound();
     security_transfers();
+    security_by_two_transfers();
     emitted_is_kernel();
     emitted_is_alike();
 }

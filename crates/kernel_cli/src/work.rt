@@ -43,6 +43,8 @@ pub enum BundleWork {
     Explain,
     /// `certify`: judges the first task in the bundle's worlds.
     Certify,
+    /// `certify 2`: judges it by two probes at once.
+    CertifyTwo,
 }
 
 /// What is done over lines of code.
@@ -103,6 +105,7 @@ fn work_of(command: Command) -> Work
         Command::Replay { harts, probes } => Work::Bundle(BundleWork::Replay { harts, probes }),
         Command::Explain => Work::Bundle(BundleWork::Explain),
         Command::Certify => Work::Bundle(BundleWork::Certify),
+        Command::CertifyTwo => Work::Bundle(BundleWork::CertifyTwo),
         Command::Gen { seed, tasks } => Work::Generated(GeneratedWork::Gen { seed, tasks }),
         Command::Drill { seed, tasks } => Work::Generated(GeneratedWork::Drill { seed, tasks }),
         Command::Lint => Work::Code(CodeWork::Lint),
@@ -143,7 +146,8 @@ pub(crate) fn harts_of(work: BundleWork) -> u32
         | BundleWork::Asm
         | BundleWork::Script { .. }
         | BundleWork::Explain
-        | BundleWork::Certify => 8,
+        | BundleWork::Certify
+        | BundleWork::CertifyTwo => 8,
     }
 }
 

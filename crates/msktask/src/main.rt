@@ -18,6 +18,7 @@ usage: msktask COMMAND
   replay H         runs H harts by the order of the bundle and their plans
   replay H probes  the same, with every entry of the log before the report
   certify          judges the first task of the bundle in the bundle's worlds
+  certify 2        the same by two probes at once
   explain          as script, with each entry that isn't public and what it shows
   gen SEED N       writes the bundle of N masked tasks, 1 to 32, that the number SEED gives; reads no bundle
   drill SEED N     runs that bundle on one hart until it finds nothing; reads no bundle
