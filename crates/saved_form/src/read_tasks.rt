@@ -3,8 +3,9 @@
 ghost use Rattle.std.specs.Prelude.{◌≡◌, [], ◌≤◌, ◌^◌, ◌*◌, length};
 ghost use Rattle.std.specs.List.{list_any, sum_by};
 ghost use Rattle.saved_form.specs.Fields.{field, items, made};
-ghost use Rattle.saved_form.specs.Ranges.{has_slot, is_free_slot, is_fuel, is_end_word, word_count};
-ghost use Rattle.saved_form.specs.Reading.{cell, context_from, context_parts, end_by, end, ended_from, ended_parts, progress, room_of, task};
+ghost use Rattle.saved_form.specs.Bounds.{known_by, room_by};
+ghost use Rattle.saved_form.specs.Ranges.{up_to, has_slot, is_free_slot, is_fuel, is_end_word, word_count};
+ghost use Rattle.saved_form.specs.Reading.{cell, context_from, context_parts, end_by, end, ended_from, ended_parts, progress, task};
 ghost use Rattle.saved_form.specs.Answer.{Gives};
 
 use crate::numbers::{Numbers, ReadError, passed};
@@ -105,12 +106,19 @@ fn free_slot(slots: u32, before: &[SavedTask], numbers: &mut Numbers) -> Result<
     passed(slot, at, is_free_slot(slots, before, slot))
 }
 
+/// How many instructions a task of this fuel has executed.
+fn count(fuel: u32, numbers: &mut Numbers) -> Result<u32, ReadError>
+    ensures value { Gives result numbers.new (field (up_to fuel) numbers.old) }
+{
+    numbers.up_to(fuel as usize)
+}
+
 /// What there is of a ready task.
 fn context(alloc: Global, room: &Room, numbers: &mut Numbers) -> Result<SavedContext, ReadError>
-    ensures value { Gives result numbers.new (made context_from (context_parts (room_of room.now.slots room.now.before.now room.now.fuel room.now.out_max room.now.data_len room.now.tape.now)) numbers.old) }
+    ensures value { Gives result numbers.new (made context_from (context_parts (room_by room.now)) numbers.old) }
 {
     let slot = free_slot(room.slots, room.before, numbers)?;
-    let count = numbers.up_to(room.fuel as usize)?;
+    let count = count(room.fuel, numbers)?;
     let regs = cells(alloc, REGISTERS, numbers)?;
     let data_words = cells(alloc, room.data_len, numbers)?;
     let tape_at = numbers.up_to(room.tape.len())?;
@@ -177,9 +185,9 @@ fn end(numbers: &mut Numbers) -> Result<End, ReadError>
 
 /// What there is of a task that has ended.
 fn ended(alloc: Global, room: &Room, numbers: &mut Numbers) -> Result<SavedEnd, ReadError>
-    ensures value { Gives result numbers.new (made ended_from (ended_parts (room_of room.now.slots room.now.before.now room.now.fuel room.now.out_max room.now.data_len room.now.tape.now)) numbers.old) }
+    ensures value { Gives result numbers.new (made ended_from (ended_parts (room_by room.now)) numbers.old) }
 {
-    let count = numbers.up_to(room.fuel as usize)?;
+    let count = count(room.fuel, numbers)?;
     let end = end(numbers)?;
     let output = numbers.counted_words(alloc, room.out_max as usize)?;
     Ok(SavedEnd { count, end, output })
@@ -187,7 +195,7 @@ fn ended(alloc: Global, room: &Room, numbers: &mut Numbers) -> Result<SavedEnd, 
 
 /// How far a task is.
 fn progress(alloc: Global, room: &Room, numbers: &mut Numbers) -> Result<Progress, ReadError>
-    ensures value { Gives result numbers.new (progress (room_of room.now.slots room.now.before.now room.now.fuel room.now.out_max room.now.data_len room.now.tape.now) numbers.old) }
+    ensures value { Gives result numbers.new (progress (room_by room.now) numbers.old) }
 {
     let kind = numbers.up_to(2)?;
     match kind {
@@ -242,7 +250,7 @@ fn task(
 ) -> Result<SavedTask, ReadError>
     requires quanta { known.now.quanta ≤ 8 * 2 ^ 64 }
     requires few { length before.now ≤ 32 }
-    ensures value { Gives result numbers.new (task (record { quanta = known.now.quanta; tasks = known.now.tasks; harts = known.now.harts; slots = known.now.slots }) before.now numbers.old) }
+    ensures value { Gives result numbers.new (task (known_by known.now) before.now numbers.old) }
 {
     let band = numbers.up_to(1)?;
     let fuel = fuel(known, before, numbers)?;
@@ -278,7 +286,7 @@ pub(crate) fn tasks(
 ) -> Result<Items<SavedTask>, ReadError>
     requires quanta { known.now.quanta ≤ 8 * 2 ^ 64 }
     requires few { known.now.tasks ≤ 32 }
-    ensures value { Gives result numbers.new (items (task (record { quanta = known.now.quanta; tasks = known.now.tasks; harts = known.now.harts; slots = known.now.slots })) [] known.now.tasks numbers.old) }
+    ensures value { Gives result numbers.new (items (task (known_by known.now)) [] known.now.tasks numbers.old) }
 {
     let mut found = Vec::new(alloc);
     for _index in 0..known.tasks {

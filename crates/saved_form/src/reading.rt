@@ -1,11 +1,12 @@
 //! Reading a saved board.
 
-ghost use Rattle.std.specs.Prelude.{◌≡◌, ◌==◌};
+ghost use Rattle.std.specs.Prelude.{◌≡◌, ◌==◌, IfOk};
 ghost use Rattle.isa_model.specs.Limits.{max_order_entries};
 ghost use Rattle.saved_form.specs.Fields.{field, pair, counted_items};
 ghost use Rattle.saved_form.specs.Ranges.{up_to, waits, is_ready_in, ended};
-ghost use Rattle.saved_form.specs.Spelling.{magic};
+ghost use Rattle.saved_form.specs.Spelling.{magic, spelling};
 ghost use Rattle.saved_form.specs.Reading.{task_list, run, board, read_saved};
+ghost use Rattle.saved_form.specs.InRange.{IsInRange};
 ghost use Rattle.saved_form.specs.Answer.{Gives, Answers};
 
 use crate::numbers::{Numbers, ReadError, passed};
@@ -86,12 +87,8 @@ fn board(alloc: Global, numbers: &mut Numbers) -> Result<SavedBoard, ReadError>
     })
 }
 
-/// Reads a saved board. Errors: the first fault, at its byte; `Memory` where memory ran out.
-///
-/// No number that says how many fields follow makes it allocate before they are there, so it takes memory linear in the length of the
-/// bytes, and time linear in it too.
-pub fn read(alloc: Global, bytes: &[u8]) -> Result<SavedBoard, ReadError>
-    // The board that the bytes say, or their first fault, as functions of them.
+/// What all of the bytes say.
+fn whole_board(alloc: Global, bytes: &[u8]) -> Result<SavedBoard, ReadError>
     ensures exact { Answers result (read_saved bytes.now) }
 {
     let mut numbers = Numbers::new(bytes);
@@ -102,4 +99,18 @@ pub fn read(alloc: Global, bytes: &[u8]) -> Result<SavedBoard, ReadError>
     } else {
         Err(ReadError::Bad { at })
     }
+}
+
+/// Reads a saved board. Errors: the first fault, at its byte; `Memory` where memory ran out.
+///
+/// No number that says how many fields follow makes it take memory before they are there. So it takes memory and time linear in the
+/// length of the bytes.
+pub fn read(alloc: Global, bytes: &[u8]) -> Result<SavedBoard, ReadError>
+    // The board that the bytes say, or their first fault, as functions of them.
+    ensures exact { Answers result (read_saved bytes.now) }
+
+    // The bytes are the only spelling of the board, which is within its ranges: writing it gives them again.
+    ensures spelled { IfOk result (λ board. (bytes.now ≡ spelling board) × IsInRange board) }
+{
+    whole_board(alloc, bytes)
 }
