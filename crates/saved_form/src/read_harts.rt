@@ -21,8 +21,17 @@ const QUANTA_MAX: usize = 1024;
 /// The greatest quantum and the greatest tail.
 const QUANTUM_MAX: u32 = 4096;
 
-/// Where a hart rests that has found nothing.
+/// Where a hart rests that has given an ended task.
+const GIVEN_AT: u32 = 0x131c;
+
+/// Where a hart rests before a take.
+const TAKE_AT: u32 = 0x1324;
+
+/// Where a hart rests after a take that found nothing.
 const TAKEN_AT: u32 = 0x1328;
+
+/// The idle loop.
+const IDLE_AT: u32 = 0x1454;
 
 /// So many quanta.
 fn so_many_quanta(alloc: Global, count: u32, numbers: &mut Numbers) -> Result<Words, ReadError>
@@ -53,7 +62,7 @@ fn rest_pc(numbers: &mut Numbers) -> Result<u32, ReadError>
     passed(
         pc,
         at,
-        pc == 0x131c || pc == 0x1324 || pc == TAKEN_AT || pc == 0x1454,
+        pc == GIVEN_AT || pc == TAKE_AT || pc == TAKEN_AT || pc == IDLE_AT,
     )
 }
 

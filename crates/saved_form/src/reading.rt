@@ -19,6 +19,15 @@ use core_model::{Items, OrderRun};
 use isa_model::Words;
 use std::alloc::Global;
 
+/// How many harts there are at most.
+const HARTS_MAX: u32 = 8;
+
+/// How many slots there are at most.
+const SLOTS_MAX: u32 = 8;
+
+/// How many tasks there are at most.
+const TASKS_MAX: u32 = 32;
+
 /// The number that the first four bytes spell.
 fn magic(numbers: &mut Numbers) -> Result<u32, ReadError>
     ensures value { Gives result numbers.new (field (λ n. n == magic) numbers.old) }
@@ -58,9 +67,9 @@ fn board(alloc: Global, numbers: &mut Numbers) -> Result<SavedBoard, ReadError>
     ensures value { Gives result numbers.new (board numbers.old) }
 {
     magic(numbers)?;
-    let hart_count = numbers.between(1, 8)?;
-    let slots = numbers.between(1, 8)?;
-    let task_count = numbers.between(1, 32)?;
+    let hart_count = numbers.between(1, HARTS_MAX)?;
+    let slots = numbers.between(1, SLOTS_MAX)?;
+    let task_count = numbers.between(1, TASKS_MAX)?;
     let harts = harts(alloc, hart_count, numbers)?;
     let known = Known {
         quanta: quanta_of(harts.as_slice()),
