@@ -15,4 +15,6 @@ pub mod ToAction
 pub mod Counting
 pub mod Booted
 pub mod Parting
+pub mod SeatsOver
+pub mod PartsOver
 pub mod Reported

@@ -1,6 +1,6 @@
 -- The seats of a core that goes by the plans: at boot, and after a step of one hart more.
 use Rattle.std.proofs.Common.{◌≡◌, ◌≢◌, ℕ, zero, suc, ◌<◌, ◌++◌, Bool, true, false, ◌⊎◌, inl, inr, List, [], ◌∷◌, length, get_or, set, map, replicate, slice_get, Option, option_map, Some, None, refl, sym, ap, ◌∙◌, subst, arith, length-set}
-use Rattle.std.proofs.lemmas.List.{length-map, length-replicate, get_or-set_other, get_or-set_same, get_or-replicate}
+use Rattle.std.proofs.lemmas.List.{length-map, get_or-set_other, get_or-set_same, get_or-replicate}
 use Rattle.std.proofs.lemmas.Option.{slice_get-map, slice_get_within, get_or_from_slice_get}
 use Rattle.hart_model.specs.HartState.{HartState}
 use Rattle.hart_model.specs.declared.probe.Probe.{Probe}
@@ -11,7 +11,7 @@ use Rattle.core_model.specs.declared.loaded.Loaded.{Loaded}
 use Rattle.core_model.specs.declared.plan.Plan.{Plan}
 use Rattle.core_model.specs.Loaded.{IsLoaded}
 use Rattle.core_model.specs.Core.{CoreState, harts_from, core_from}
-use Rattle.core_model.specs.Orders.{HartPace, CoarseState, boot_pace, boot_coarse, plan_at, count_on, pace_after, IsLegalEntry}
+use Rattle.core_model.specs.Orders.{HartPace, CoarseState, boot_pace, plan_at, count_on, pace_after, IsLegalEntry}
 use Rattle.core_model.proofs.Lists.{get-set, some-is}
 use Rattle.core_invariant.specs.KernelStates.{KernelParts}
 use Rattle.core_invariant.proofs.Items.{get-set_other}

@@ -1,5 +1,5 @@
 -- A core taken apart: nothing is out exactly where no hart holds a context, and then the parts are such as a core may be made of.
-use Rattle.std.proofs.Common.{◌≡◌, ℕ, ◌<◌, ◌==◌, Bool, true, false, cond, List, [], ◌∷◌, length, map, filter, slice_get, get_or, Option, option_map, Some, None, IsNone, is_some, ◌↔◌, refl, sym, ap, ◌∙◌, subst, arith, ⊎_elim}
+use Rattle.std.proofs.Common.{◌≡◌, ℕ, ◌<◌, ◌==◌, cond, List, [], ◌∷◌, filter, slice_get, get_or, Option, option_map, Some, None, IsNone, is_some, ◌↔◌, refl, sym, ap, ◌∙◌, subst, arith, ⊎_elim}
 use Rattle.std.specs.Prelude.{All}
 use Rattle.std.proofs.lemmas.Bool.{eq-eqb}
 use Rattle.std.proofs.lemmas.List.{length-map}
@@ -77,9 +77,9 @@ pub nothing-out : (r : RunValue) (loaded : Loaded) → IsRunKept loaded r → (h
     → All (λ (h : HartState). IsNone h.held) hs ↔ (r.board.lists.out ≡ [])
 nothing-out r loaded run hs same = (
   λ all. none-out r.kernel loaded (core_of_run r) run.kept (λ i h at.
-  let here = ap (λ (xs : List HartState). slice_get xs i) same ∙ at in
-  let N : HartState → Type 0 = λ x. IsNone x.held in
-  none-is h.held (subst N (get_or_from_slice_get hs i h h here) (all i h (slice_get_within hs i h here)))),
+      let here = ap (λ (xs : List HartState). slice_get xs i) same ∙ at in
+      let N : HartState → Type 0 = λ x. IsNone x.held in
+      none-is h.held (subst N (get_or_from_slice_get hs i h h here) (all i h (slice_get_within hs i h here)))),
   λ empty i d low.
       (let x = item-at hs i low in
       let N : HartState → Type 0 = λ y. IsNone y.held in

@@ -25,7 +25,7 @@ use std::alloc::{AllocError, Global};
 use timer_plan::Pace;
 
 /// How many actions more than it is booted for a core's order has room for: takes ask for it.
-const BEYOND: u64 = 10;
+pub(crate) const BEYOND: u64 = 10;
 
 /// The bodies of tasks at their start, numbered from 0 on.
 fn bodies(alloc: Global, tasks: &[Task]) -> Result<Vec<Body>, AllocError>

@@ -6,6 +6,7 @@ mod boot;
 mod counted;
 mod kernel;
 pub mod laws;
+mod over;
 pub mod parts;
 pub mod queue_action;
 mod reporting;

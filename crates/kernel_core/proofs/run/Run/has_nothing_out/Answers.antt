@@ -1,5 +1,5 @@
 -- Nothing is out exactly where no hart holds a context.
-use Rattle.std.proofs.Common.{◌≡◌, [], IsTrue, ◌↔◌, ap, ◌∙◌, subst}
+use Rattle.std.proofs.Common.{◌≡◌, [], IsTrue, ◌↔◌, subst}
 use Rattle.kernel_core.specs.Running.{RunValue}
 use Rattle.kernel_core.proofs.Parting.{nothing-out}
 use Rattle.kernel_core.proofs.run.Run.has_nothing_out.Goals as goal
